@@ -1,0 +1,15 @@
+pub mod Refusal
+pub mod Word
+pub mod Expression
+pub mod Reading
+pub mod Net
+pub mod ReadNet
+pub mod Plan
+pub mod Order
+pub mod Marking
+pub mod Enabling
+pub mod Tries
+pub mod Run
+pub mod Answer
+pub mod Calls
+pub mod Print
