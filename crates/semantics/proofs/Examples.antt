@@ -14,8 +14,9 @@ use Rattle.semantics.specs.ReadNet.{operatorToken, tokenOf, tokenAt, exp
 use Rattle.semantics.specs.Plan.{loneUnbound, solution, newlyBound, member, everyBelow, planFault, plansFault, acceptFront, acceptNet}
 use Rattle.semantics.specs.Order.{sameInteger, sameTuple, before, valuesFrom, valuesOfRange, tuples, inRanges}
 use Rattle.semantics.specs.Marking.{readEntry, readEntries, readMarking, readBinding, countsOf}
-use Rattle.semantics.specs.Enabling.{every, total, holds, flow, flows, covers, isEnabled}
-use Rattle.semantics.specs.Tries.{select, coloursOn, matched, tries, countTries, gather, triesFrom, leavesFrom, allTries, leaves}
+use Rattle.semantics.specs.Lists.{every, select}
+use Rattle.semantics.specs.Enabling.{total, holds, flow, flows, covers, isEnabled}
+use Rattle.semantics.specs.Tries.{coloursOn, matched, tries, countTries, gather, triesFrom, leavesFrom, allTries, leaves}
 use Rattle.semantics.specs.Run.{menu, offer}
 use Rattle.semantics.specs.Calls.{MenuEnd, situation, testCall, menuCall}
 use Rattle.semantics.specs.Print.{digitsIn, afterFirst, fields, menusText, printed}

@@ -10,19 +10,11 @@ use lib.Dec.{leb, eqb}
 use lib.IntN.{ℤ, pos, negsuc}
 use lib.Signed.{ltZ, leZ, _<ℤ_, _≤ℤ_}
 use Rattle.semantics.specs.Refusal.{notEnabled, badOutput, overCount, mostCount}
+use Rattle.semantics.specs.Lists.{Every, every}
 use Rattle.semantics.specs.Expression.{Environment, value, valuesOf, bound}
 use Rattle.semantics.specs.Net.{Place, Arc, Relation, equal, unequal, less, atMost, Conjunct, Transition, Net, rangesAt}
 use Rattle.semantics.specs.Order.{sameInteger, sameTuple, inRanges}
 use Rattle.semantics.specs.Marking.{Counts}
-
--- every member of a list has a property, or passes a test
-abbrev pub Every : {A : Type 0} → (A → Type 0) → List A → Type 0
-Every P [] = Unit {0}
-Every P (x ∷ xs) = P x × Every P xs
-
-unfoldable pub every : {A : Type 0} → (A → Bool) → List A → Bool
-every p [] = true
-every p (x ∷ xs) = p x && every p xs
 
 -- What an arc moves under a binding: so many tokens of a colour, to or from a place.
 pub record Flow : Type 0 where
@@ -81,14 +73,17 @@ pub record Enabled (table : List ℕ) (t : Transition) (m : Counts) (b : List �
 abbrev pub Fits : Net → Flow → Type 0
 Fits net f = 1 ≤ f .amount → inRanges (rangesAt (net .places) (f .place)) (f .colour) ≡ true
 
--- "A step is an enabled binding whose output expressions have values, with no negative output coefficient, each colour of positive
--- coefficient in its place's ranges, and each count after (count - inputs + outputs) at most 16,383."
-pub record Step (table : List ℕ) (net : Net) (t : Transition) (m : Counts) (b : List ℤ) : Type 0 where
-  pub enabled : Enabled table t m b
+-- "output expressions have values, with no negative output coefficient, each colour of positive coefficient in its place's ranges"
+pub record Delivers (table : List ℕ) (net : Net) (t : Transition) (b : List ℤ) : Type 0 where
   pub made : List Flow
   pub outputs : AllMove table (bound b) (t .outputs) made
   pub placed : Every (Fits net) made
-  pub within : (p : ℕ) (c : List ℤ) → effect m (enabled .taken) made p c ≤ mostCount
+
+-- "A step is an enabled binding whose output expressions have values .., and each count after (count - inputs + outputs) at most 16,383."
+pub record Step (table : List ℕ) (net : Net) (t : Transition) (m : Counts) (b : List ℤ) : Type 0 where
+  pub enabled : Enabled table t m b
+  pub delivers : Delivers table net t b
+  pub within : (p : ℕ) (c : List ℤ) → effect m (enabled .taken) (delivers .made) p c ≤ mostCount
 
 -- ── Tests that compute ──
 

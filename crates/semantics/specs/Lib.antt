@@ -1,4 +1,5 @@
 pub mod Refusal
+pub mod Lists
 pub mod Word
 pub mod Expression
 pub mod Reading

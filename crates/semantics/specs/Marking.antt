@@ -1,17 +1,18 @@
 -- 01, "Words": markings, bindings and picks as words, with refusals 6 to 9; the counts of a marking, and its words again.
 -- Rests on Reading, Net and Order.
-use Prim.Native.Nat.{ℕ, zero, suc, _+_}
+use mathlib.Core.Path.{_≡_}
+use Prim.Native.Nat.{ℕ, zero, suc, _+_, _≤_, _<_}
 use mathlib.Core.Bool.{Bool, true, false, cond, not, _&&_}
 use mathlib.Core.List.{List, [], _∷_, _++_, map, flatMap}
 use mathlib.Core.Option.{Option, none, some}
 use lib.Dec.{leb, ltb, eqb}
 use lib.IntN.{ℤ, pos}
 use lib.ListN.{length}
-use Rattle.semantics.specs.Refusal.{badMarking, badBinding}
+use Rattle.semantics.specs.Refusal.{badMarking, badBinding, mostCount}
 use Rattle.semantics.specs.Word.{kind, payload, bits, only, Range, tokenWord, valueWord}
 use Rattle.semantics.specs.Reading.{Reading, read, refused, then, Reader, _>>=_, give, here, demand, word, valuesIn, ended, numbered}
 use Rattle.semantics.specs.Net.{Place, Transition, Net, rangesAt}
-use Rattle.semantics.specs.Order.{sameTuple, before, tuples}
+use Rattle.semantics.specs.Order.{sameTuple, before, tuples, inRanges}
 
 -- an entry of a marking
 pub record Entry : Type 0 where
@@ -73,6 +74,12 @@ firstMalformed picks = firstThat (λ w. not (isPick w)) picks 0
 -- A count for each place and colour.
 abbrev pub Counts : Type 0
 Counts = ℕ → List ℤ → ℕ
+
+-- Counts as a marking can have them: colours of the net's places alone, and none above 16,383.
+pub record Proper (net : Net) (m : Counts) : Type 0 where
+  pub placed : (p : ℕ) (c : List ℤ) → 1 ≤ m p c → p < length (net .places)
+  pub ranged : (p : ℕ) (c : List ℤ) → 1 ≤ m p c → inRanges (rangesAt (net .places) p) c ≡ true
+  pub limited : (p : ℕ) (c : List ℤ) → m p c ≤ mostCount
 
 unfoldable pub countsOf : List Entry → Counts
 countsOf [] p c = 0

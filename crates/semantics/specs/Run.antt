@@ -8,11 +8,12 @@ use lib.Dec.{leb, ltb}
 use lib.IntN.{ℤ}
 use lib.ListN.{length, getElem?}
 use Rattle.semantics.specs.Refusal.{overBudget, overMenu, noSuchIndex, overRoom, noTransition, mostWords, mostBindings}
+use Rattle.semantics.specs.Lists.{select}
 use Rattle.semantics.specs.Net.{Transition, Net}
 use Rattle.semantics.specs.Order.{tuples}
 use Rattle.semantics.specs.Marking.{Counts, markingWords, pickTransition, pickIndex}
 use Rattle.semantics.specs.Enabling.{isEnabled, Move, moved, stopped, occur}
-use Rattle.semantics.specs.Tries.{select, allTries}
+use Rattle.semantics.specs.Tries.{allTries}
 
 -- 01's menu, the list of enabled bindings: "all bindings of the pick's transition, keeps those enabled under its counts .. by rising variable 0"
 unfoldable pub menu : List ℕ → Transition → Counts → List (List ℤ)

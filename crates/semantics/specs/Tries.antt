@@ -7,6 +7,7 @@ use mathlib.Core.Option.{Option, none, some, bind}
 use lib.Dec.{leb}
 use lib.IntN.{ℤ}
 use lib.ListN.{length, getD, getElem?, set, replicate}
+use Rattle.semantics.specs.Lists.{select}
 use Rattle.semantics.specs.Word.{Range, within}
 use Rattle.semantics.specs.Expression.{Environment, Expression, constant, variable, binary, load, value}
 use Rattle.semantics.specs.Net.{Place, Arc, Conjunct, Sort, match, solve, range, Element, Transition, Net, rangesAt}
@@ -31,15 +32,6 @@ present (some z) = true
 
 abbrev pub isBoundIn : Partial → ℕ → Bool
 isBoundIn p n = present (partly p n)
-
--- those of a list that pass a test
-abbrev pub consIf : {A : Type 0} → Bool → A → List A → List A
-consIf true x xs = x ∷ xs
-consIf false x xs = xs
-
-unfoldable pub select : {A : Type 0} → (A → Bool) → List A → List A
-select p [] = []
-select p (x ∷ xs) = consIf (p x) x (select p xs)
 
 -- "each distinct colour marked on the place"
 unfoldable pub coloursOn : Net → Counts → ℕ → List (List ℤ)
