@@ -1,2 +1,5 @@
 pub mod Examples
 pub mod Tests
+pub mod Integers
+pub mod Order
+pub mod Tuples

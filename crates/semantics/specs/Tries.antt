@@ -3,9 +3,9 @@
 use Prim.Native.Nat.{ℕ, zero, suc, _+_}
 use mathlib.Core.Bool.{Bool, true, false, cond, _&&_}
 use mathlib.Core.List.{List, [], _∷_, _++_, map}
-use mathlib.Core.Option.{Option, none, some, bind}
+use mathlib.Core.Option.{Option, none, some, bind, Option·getD}
 use lib.Dec.{leb}
-use lib.IntN.{ℤ}
+use lib.IntN.{ℤ, pos}
 use lib.ListN.{length, getD, getElem?, set, replicate}
 use Rattle.semantics.specs.Lists.{select}
 use Rattle.semantics.specs.Word.{Range, within}
@@ -22,6 +22,10 @@ Partial = List (Option ℤ)
 -- "The empty binding"
 abbrev pub empty : Transition → Partial
 empty t = replicate (length (t .variables)) none
+
+-- the binding that a full partial binding is
+abbrev pub bindingOf : Partial → List ℤ
+bindingOf p = map (λ o. Option·getD o (pos 0)) p
 
 abbrev pub partly : Partial → Environment
 partly p n = getD p n none
