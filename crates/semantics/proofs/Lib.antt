@@ -3,3 +3,6 @@ pub mod Tests
 pub mod Integers
 pub mod Order
 pub mod Tuples
+pub mod Partial
+pub mod Fitness
+pub mod Leaves

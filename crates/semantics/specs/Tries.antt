@@ -54,7 +54,7 @@ agree ranges p n none z = bindNew p n (getElem? ranges n) z
 -- "A match try goes on when lone variables and constants agree with the colour and new values are in range; components with operators wait"
 unfoldable pub matched : List Range → List Expression → List ℤ → Partial → Option Partial
 matched ranges [] zs p = some p
-matched ranges (e ∷ es) [] p = some p
+matched ranges (e ∷ es) [] p = none
 matched ranges (constant k ∷ es) (z ∷ zs) p = bind (cond (sameInteger k z) (some p) none) (matched ranges es zs)
 matched ranges (variable n ∷ es) (z ∷ zs) p = bind (agree ranges p n (partly p n) z) (matched ranges es zs)
 matched ranges (binary o a b ∷ es) (z ∷ zs) p = matched ranges es zs p
