@@ -1,2 +1,4 @@
+pub mod Enabling
 pub mod Examples
+pub mod Step
 pub mod Tests
