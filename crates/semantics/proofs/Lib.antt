@@ -1,4 +1,6 @@
+pub mod Enabling
 pub mod Examples
+pub mod Step
 pub mod Tests
 pub mod Integers
 pub mod Order
