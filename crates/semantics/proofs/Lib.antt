@@ -1,2 +1,4 @@
 pub mod Examples
 pub mod Tests
+pub mod Readers
+pub mod Accepted
