@@ -1,10 +1,12 @@
-pub mod Enabling
-pub mod Examples
-pub mod Step
 pub mod Tests
+pub mod Examples
 pub mod Integers
 pub mod Order
 pub mod Tuples
+pub mod Readers
+pub mod Accepted
+pub mod Enabling
+pub mod Step
 pub mod Partial
 pub mod Fitness
 pub mod Leaves
