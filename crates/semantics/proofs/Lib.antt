@@ -10,3 +10,4 @@ pub mod Step
 pub mod Partial
 pub mod Fitness
 pub mod Leaves
+pub mod Menu
