@@ -11,3 +11,5 @@ pub mod Partial
 pub mod Fitness
 pub mod Leaves
 pub mod Menu
+pub mod Offer
+pub mod Plans

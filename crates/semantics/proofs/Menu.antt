@@ -30,11 +30,10 @@ Offered table t m b = (inRanges (t .variables) b ≡ true) × Enabled table t m 
 module _ (table : List ℕ) (t : Transition) (m : Counts) where
   pub menu-members : (b : List ℤ) → List·Memᴰ b (menu table t m) ↔ Offered table t m b
   unfolding menu
-  menu-members b =
-      (
-        λ k. let s = selected (isEnabled table t m) (tuples (t .variables)) k in (tuples-in (t .variables) b (s .0), enabled-sound table t m b (s .1)),
-        λ o. select-in (isEnabled table t m) (in-tuples (t .variables) b (o .0)) (enabled-complete table t m b (o .1))
-      )
+  menu-members b = (
+    λ k. let s = selected (isEnabled table t m) (tuples (t .variables)) k in (tuples-in (t .variables) b (s .0), enabled-sound table t m b (s .1)),
+    λ o. select-in (isEnabled table t m) (in-tuples (t .variables) b (o .0)) (enabled-complete table t m b (o .1)),
+  )
 
   pub menu-rises : Rising (λ b. b) (menu table t m)
   unfolding menu

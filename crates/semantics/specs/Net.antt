@@ -1,5 +1,6 @@
 -- 01, "Words": what a net is, as data. Each structure holds the position of its first word.
 -- Rests on Word and Expression.
+use mathlib.Core.Path.{_≡_}
 use Prim.Native.Nat.{ℕ, zero, suc}
 use mathlib.Core.List.{List, [], _∷_, map}
 use lib.IntN.{ℤ}
@@ -51,3 +52,22 @@ pub record Net : Type 0 where
 -- the ranges of a place by its number, none where there is no such place
 abbrev pub rangesAt : List Place → ℕ → List Range
 rangesAt places p = getD (map (λ (q : Place). q .ranges) places) p []
+
+-- A net with positions and plans set aside. Two accepted nets "differ only in elements and E" where these are the same.
+abbrev pub barePlace : Place → Place
+barePlace q = record { position = 0; ranges = q .ranges }
+
+abbrev pub bareArc : Arc → Arc
+bareArc a = record { position = 0; place = a .place; coefficient = a .coefficient; components = a .components }
+
+abbrev pub bareConjunct : Conjunct → Conjunct
+bareConjunct c = record { position = 0; relation = c .relation; left = c .left; right = c .right }
+
+abbrev pub bareTransition : Transition → Transition
+bareTransition t = record { position = 0; variables = t .variables; inputs = map bareArc (t .inputs); outputs = map bareArc (t .outputs); guard = map bareConjunct (t .guard); plan = [] }
+
+abbrev pub bareNet : Net → Net
+bareNet net = record { places = map barePlace (net .places); transitions = map bareTransition (net .transitions) }
+
+abbrev pub DifferInPlans : Net → Net → Type 0
+DifferInPlans n n′ = bareNet n ≡ bareNet n′
