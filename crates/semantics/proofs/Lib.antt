@@ -13,3 +13,4 @@ pub mod Leaves
 pub mod Menu
 pub mod Offer
 pub mod Plans
+pub mod Run

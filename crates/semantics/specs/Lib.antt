@@ -14,3 +14,4 @@ pub mod Run
 pub mod Answer
 pub mod Calls
 pub mod Print
+pub mod Reach

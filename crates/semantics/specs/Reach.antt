@@ -1,0 +1,37 @@
+-- Demand 3 on runs: what steps reach. A chain of steps over counts and bindings; nothing here mentions picks, indices or an order.
+-- Rests on Enabling, Tries and Run.
+use mathlib.Core.Path.{_≡_}
+use Prim.Native.Nat.{ℕ, zero, suc, _*_, _≤_}
+use mathlib.Core.Bool.{true}
+use mathlib.Core.List.{List}
+use mathlib.Core.Option.{some}
+use lib.IntN.{ℤ}
+use lib.ListN.{length, getElem?}
+use Rattle.semantics.specs.Refusal.{mostWords, mostBindings}
+use Rattle.semantics.specs.Net.{Transition, Net}
+use Rattle.semantics.specs.Order.{inRanges}
+use Rattle.semantics.specs.Marking.{Counts, markingWords}
+use Rattle.semantics.specs.Enabling.{Step, effect}
+use Rattle.semantics.specs.Tries.{allTries}
+use Rattle.semantics.specs.Run.{menu, Limits}
+
+-- One step: a binding in range of one of the net's transitions that is a step and leads from m to m′.
+-- "the budget covers it if its W is at most the budget, and it fits if 11 doesn't apply. A new marking finds room if 16 doesn't apply."
+pub record Leg (table : List ℕ) (net : Net) (l : Limits) (m m′ : Counts) : Type 0 where
+  pub number : ℕ
+  pub transition : Transition
+  pub named : getElem? (net .transitions) number ≡ some transition
+  pub binding : List ℤ
+  pub inside : inRanges (transition .variables) binding ≡ true
+  pub step : Step table net transition m binding
+  pub leads : m′ ≡ effect m (step .enabled .taken) (step .delivers .made)
+  pub covered : allTries table net transition m ≤ l .budget
+  pub few : length (menu table transition m) ≤ mostBindings
+  pub fits : length (menu table transition m) * length (transition .variables) ≤ l .menu
+  pub room : length (markingWords net m′) ≤ l .room
+  pub short : length (markingWords net m′) ≤ mostWords
+
+-- k steps lead from m to m′
+pub data Chain (table : List ℕ) (net : Net) (l : Limits) : ℕ → Counts → Counts → Type 0 where
+  arrived : {m : Counts} → Chain table net l zero m m
+  along : {k : ℕ} {m m′ m″ : Counts} → Leg table net l m m′ → Chain table net l k m′ m″ → Chain table net l (suc k) m m″
