@@ -4,3 +4,4 @@ pub mod Integers
 pub mod Order
 pub mod Tuples
 pub mod Words
+pub mod Entries
