@@ -5,3 +5,4 @@ pub mod Order
 pub mod Tuples
 pub mod Words
 pub mod Entries
+pub mod Readers
