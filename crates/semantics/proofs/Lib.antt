@@ -6,3 +6,4 @@ pub mod Tuples
 pub mod Words
 pub mod Entries
 pub mod Readers
+pub mod ReadEntries

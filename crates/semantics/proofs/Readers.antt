@@ -39,6 +39,10 @@ pub then-read : {A B X : Type 0} (r : Reading A) (k : A → ℕ → Reading B) (
 then-read (read a mid) k b next e f = f a mid refl e
 then-read (refused n p) k b next e f = refused-read n p b next e
 
+pub then-demand : {A B : Type 0} (t : Bool) (p : ℕ) (a : A) (mid : ℕ) (k : A → ℕ → Reading B) (b : B) (next : ℕ) → then (demand t p (read a mid)) k ≡ read b next → (t ≡ true) × (k a mid ≡ read b next)
+then-demand true p a mid k b next e = (refl, e)
+then-demand false p a mid k b next e = refused-read 3 p b next e
+
 -- ── Words at a position ──
 
 -- the words xs stand from one position to another; neither passes the end of the words, nor the word 16,384
