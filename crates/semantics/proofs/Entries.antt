@@ -44,12 +44,6 @@ entry-path d e p q r = λ i. record { place = p i; count = q i; colour = r i }
 
 -- ── Counts of entries ──
 
--- counts of entries put together; so what a count is after an entry is put in, taken out or changed
-pub counts-append : (xs ys : List Entry) (p : ℕ) (c : List ℤ) → countsOf (xs ++ ys) p c ≡ countsOf xs p c + countsOf ys p c
-unfolding countsOf
-counts-append [] ys p c = omega arith
-counts-append (x ∷ xs) ys p c = let h = counts-append xs ys p c in omega arith
-
 -- the test of countsOf
 matches : Entry → ℕ → List ℤ → Bool
 matches e p c = eqb (e .place) p && sameTuple (e .colour) c

@@ -7,3 +7,4 @@ pub mod Words
 pub mod Entries
 pub mod Readers
 pub mod ReadEntries
+pub mod Markings

@@ -135,19 +135,22 @@ accepted-rest places ws last at e es next short a =
     let s : Span ws (past at e) (wordsOf es) next = record { split = drop-after ws at (wordsOfEntry e) (wordsOf es ++ drop next ws) d; after = omega arith; inside = λ h. omega arith; short = λ h. omega arith } in
     (d, omega arith, record { span = s; ended = j; good = a .good .1; above = a .rises .0; rises = a .rises .1 })
 
+accepted-end : (places : List Place) (ws : List ℕ) (last : List ℤ) (at next : ℕ) → Accepted places ws last at [] next → (leb (length ws) at ≡ true) × (at ≡ next)
+unfolding flatMap
+accepted-end places ws last at next a =
+    let i = a .span .after in
+    let j = a .ended in
+    (le-leb (length ws) at (omega arith), omega arith)
+
 pub entries-reads : (n : ℕ) (places : List Place) (ws : List ℕ) (last : List ℤ) (at : ℕ) (es : List Entry) (next : ℕ) → length places ≤ 64 → ((p : ℕ) → Narrow (rangesAt places p)) → length ws ≤ mostWords → length es ≤ n → Accepted places ws last at es next → readEntries n places ws last at ≡ read es next
 unfolding readEntries flatMap past
 entries-reads zero places ws last at [] next few narrow short enough a =
-    let i = a .span .after in
-    let j = a .ended in
-    let s : at ≡ next = omega arith in
-    rw (le-leb (length ws) at (omega arith), s)
+    let s = accepted-end places ws last at next a in
+    rw (s .0, s .1)
 entries-reads zero places ws last at (e ∷ es) next few narrow short enough a = absurd (omega arith)
 entries-reads (suc n) places ws last at [] next few narrow short enough a =
-    let i = a .span .after in
-    let j = a .ended in
-    let s : at ≡ next = omega arith in
-    rw (le-leb (length ws) at (omega arith), s)
+    let s = accepted-end places ws last at next a in
+    rw (s .0, s .1)
 entries-reads (suc n) places ws last at (e ∷ es) next few narrow short enough a =
     let r = accepted-rest places ws last at e es next short a in
     let i = r .1 in

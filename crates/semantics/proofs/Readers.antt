@@ -16,7 +16,7 @@ use lib.ListN.{length, getD, drop, length-append, length-map, drop-of-length-le}
 use lib.Seq.{drop-cons, drop-drop, drop-append-seam}
 use Rattle.semantics.specs.Refusal.{mostWords}
 use Rattle.semantics.specs.Word.{kind, payload, only, signed, modulo, Range, within, valueWord}
-use Rattle.semantics.specs.Reading.{Reading, read, refused, then, demand, wordAt, word, valuesIn}
+use Rattle.semantics.specs.Reading.{Reading, read, refused, then, demand, numbered, wordAt, word, valuesIn}
 use Rattle.semantics.specs.Order.{inRanges}
 use Rattle.semantics.proofs.Tests.{false-true, either, and-left, and-right, and-both}
 use Rattle.semantics.proofs.Words.{value-again, modulo-below, value-kind, value-payload, signed-modulo, within-mag}
@@ -33,6 +33,10 @@ module _ {A : Type 0} where
   pub demand-read : (t : Bool) (p : ℕ) (r : Reading A) (a : A) (next : ℕ) → demand t p r ≡ read a next → (t ≡ true) × (r ≡ read a next)
   demand-read true p r a next e = (refl, e)
   demand-read false p r a next e = refused-read 3 p a next e
+
+  pub numbered-read : (n : ℕ) (r : Reading A) (a : A) (next : ℕ) → numbered n r ≡ read a next → r ≡ read a next
+  numbered-read n (read b at) a next e = e
+  numbered-read n (refused m p) a next e = refused-read n p a next e
 
 -- what follows from a reading and the one after it
 pub then-read : {A B X : Type 0} (r : Reading A) (k : A → ℕ → Reading B) (b : B) (next : ℕ) → then r k ≡ read b next → ((a : A) (mid : ℕ) → r ≡ read a mid → k a mid ≡ read b next → X) → X
