@@ -3,7 +3,7 @@
 -- from both rise by key and have the same members, so they are the same list (`rising-unique`).
 use mathlib.Core.Path.{_≡_, refl, sym, ap, _∙_, subst}
 use mathlib.Core.Logic.{_⊎_, inl, inr}
-use mathlib.Core.Bool.{Bool, true, false, cond, _&&_}
+use mathlib.Core.Bool.{Bool, true, false, _&&_}
 use mathlib.Core.List.{List, [], _∷_, _++_, map, flatMap, append-nil, append-assoc, List·Memᴰ, List·Memᴰ·head, List·Memᴰ·tail, List·Memᴰ·not-nil, List·Memᴰ·eq-of-singleton, Memᴰ·cast, Memᴰ·append-left, Memᴰ·append-right, List·Memᴰ·append-cases}
 use Prim.Native.Nat.{ℕ, zero, suc, _+_, _≤_, _<_}
 use native.Mathlib.Omega.{arith}
@@ -13,7 +13,7 @@ use lib.IntN.{ℤ, pos}
 use lib.ListN.{length}
 use Rattle.semantics.specs.Refusal.{mostCount}
 use Rattle.semantics.specs.Lists.{Every}
-use Rattle.semantics.specs.Word.{Range, tokenWord, valueWord}
+use Rattle.semantics.specs.Word.{tokenWord, valueWord}
 use Rattle.semantics.specs.Net.{Place, Net, rangesAt}
 use Rattle.semantics.specs.Order.{sameTuple, before, Rising, tuples, inRanges}
 use Rattle.semantics.specs.Marking.{Entry, key, Counts, Proper, countsOf, entryWords, wordsFrom, markingWords}
@@ -56,18 +56,26 @@ matches-refl : (e : Entry) → matches e (e .place) (e .colour) ≡ true
 unfolding matches
 matches-refl e = and-both (eqb (e .place) (e .place)) (sameTuple (e .colour) (e .colour)) (eq-eqb (e .place) (e .place) refl) (tuple-refl (e .colour))
 
+-- an entry with a place and a colour, and its count
+pub record Found (es : List Entry) (p : ℕ) (c : List ℤ) : Type 0 where
+  pub entry : Entry
+  pub member : List·Memᴰ entry es
+  pub place : entry .place ≡ p
+  pub colour : entry .colour ≡ c
+  pub some : 1 ≤ entry .count
+
 -- a positive count is that of some entry
-pub counts-some : (es : List Entry) (p : ℕ) (c : List ℤ) → 1 ≤ countsOf es p c → (e : Entry) × List·Memᴰ e es × (e .place ≡ p) × (e .colour ≡ c) × (1 ≤ e .count)
+pub counts-some : (es : List Entry) (p : ℕ) (c : List ℤ) → 1 ≤ countsOf es p c → Found es p c
 unfolding countsOf matches
 counts-some [] p c h = absurd (omega arith)
 counts-some (e ∷ es) p c h = by (counts-some es p c) (e .count) refl (either (matches e p c))
   where
-    later : (d : Entry) × List·Memᴰ d es × (d .place ≡ p) × (d .colour ≡ c) × (1 ≤ d .count) → (d : Entry) × List·Memᴰ d (e ∷ es) × (d .place ≡ p) × (d .colour ≡ c) × (1 ≤ d .count)
-    later r = (r .0, List·Memᴰ·tail (r .1), r .2, r .3, r .4)
+    later : Found es p c → Found (e ∷ es) p c
+    later d = record { entry = d .entry; member = List·Memᴰ·tail (d .member); place = d .place; colour = d .colour; some = d .some }
 
-    by : (1 ≤ countsOf es p c → (d : Entry) × List·Memᴰ d es × (d .place ≡ p) × (d .colour ≡ c) × (1 ≤ d .count)) → (n : ℕ) → e .count ≡ n → (matches e p c ≡ true) ⊎ (matches e p c ≡ false) → (d : Entry) × List·Memᴰ d (e ∷ es) × (d .place ≡ p) × (d .colour ≡ c) × (1 ≤ d .count)
+    by : (1 ≤ countsOf es p c → Found es p c) → (n : ℕ) → e .count ≡ n → (matches e p c ≡ true) ⊎ (matches e p c ≡ false) → Found (e ∷ es) p c
     by f n q (inr t) = later (f (omega (arith, cond-false (matches e p c) (e .count) 0 t)))
-    by f (suc n) q (inl t) = let s = matches-same e p c t in (e, List·Memᴰ·head refl, s .0, s .1, omega arith)
+    by f (suc n) q (inl t) = let s = matches-same e p c t in record { entry = e; member = List·Memᴰ·head refl; place = s .0; colour = s .1; some = omega arith }
     by f zero q (inl t) = later (f (omega (arith, cond-true (matches e p c) (e .count) 0 t)))
 
 -- no entry that stands after a key adds to its count
@@ -78,8 +86,8 @@ counts-after d es r = by (countsOf es (d .place) (d .colour)) refl
     by zero q = refl
     by (suc n) q =
         let s = counts-some es (d .place) (d .colour) (omega arith) in
-        let same : entryKey (s .0) ≡ entryKey d = cc (s .2, s .3) in
-        absurd (before-irrefl (entryKey d) (rw same at (Every-at (λ (e : Entry). before (entryKey d) (entryKey e) ≡ true) r (s .1))))
+        let same : entryKey (s .entry) ≡ entryKey d = cc (s .place, s .colour) in
+        absurd (before-irrefl (entryKey d) (rw same at (Every-at (λ (e : Entry). before (entryKey d) (entryKey e) ≡ true) r (s .member))))
 
 -- in a rising list a key has one entry, whose count it is
 pub counts-member : (es : List Entry) → Rising entryKey es → (e : Entry) → List·Memᴰ e es → countsOf es (e .place) (e .colour) ≡ e .count
@@ -98,27 +106,26 @@ counts-member (x ∷ xs) r e (List·Memᴰ·tail k) = by (counts-member xs (r .1
         let same : entryKey x ≡ entryKey e = cc (s .0, s .1) in
         absurd (before-irrefl (entryKey e) (rw same at (Every-at (λ (d : Entry). before (entryKey x) (entryKey d) ≡ true) (r .0) k)))
 
--- so a positive count is that of the one entry with its key
-counts-entry : (es : List Entry) → Rising entryKey es → (p : ℕ) (c : List ℤ) → 1 ≤ countsOf es p c → (e : Entry) × List·Memᴰ e es × (e .place ≡ p) × (e .colour ≡ c) × (e .count ≡ countsOf es p c)
-counts-entry es r p c h = own (counts-some es p c h)
-  where
-    own : (e : Entry) × List·Memᴰ e es × (e .place ≡ p) × (e .colour ≡ c) × (1 ≤ e .count) → (e : Entry) × List·Memᴰ e es × (e .place ≡ p) × (e .colour ≡ c) × (e .count ≡ countsOf es p c)
-    own s = (s .0, s .1, s .2, s .3, rw (← s .2, ← s .3) (sym (counts-member es r (s .0) (s .1))))
+found-count : (es : List Entry) → Rising entryKey es → (p : ℕ) (c : List ℤ) (s : Found es p c) → s .entry .count ≡ countsOf es p c
+found-count es r p c s = rw (← s .place, ← s .colour) (sym (counts-member es r (s .entry) (s .member)))
 
 -- counts of good rising entries are proper
 pub counts-proper : (net : Net) (es : List Entry) → Rising entryKey es → Every (Good (net .places)) es → Proper net (countsOf es)
 counts-proper net es r g = record {
-  placed = λ p c h. let s = counts-entry es r p c h in rw (s .2) at (Every-at (Good (net .places)) g (s .1) .placed);
-  ranged = λ p c h. let s = counts-entry es r p c h in rw (s .2, s .3) at (Every-at (Good (net .places)) g (s .1) .ranged);
+  placed = λ p c h. let s = counts-some es p c h in rw (s .place) at (good s .placed);
+  ranged = λ p c h. let s = counts-some es p c h in rw (s .place, s .colour) at (good s .ranged);
   limited = λ p c. most p c (countsOf es p c) refl;
 }
   where
+    good : {p : ℕ} {c : List ℤ} (s : Found es p c) → Good (net .places) (s .entry)
+    good s = Every-at (Good (net .places)) g (s .member)
+
     most : (p : ℕ) (c : List ℤ) (n : ℕ) → countsOf es p c ≡ n → n ≤ mostCount
     most p c zero q = omega arith
     most p c (suc n) q =
-        let s = counts-entry es r p c (omega arith) in
-        let h = Every-at (Good (net .places)) g (s .1) .limited in
-        let k = s .4 in
+        let s = counts-some es p c (omega arith) in
+        let h = good s .limited in
+        let k = found-count es r p c s in
         omega arith
 
 -- ── Entries of counts ──
@@ -252,26 +259,29 @@ pub entriesOf-rise : (net : Net) (m : Counts) → Rising entryKey (entriesOf net
 unfolding entriesOf
 entriesOf-rise net m = entries-rise m 0 (net .places)
 
--- an entry of counts is a colour of a place, with its count
-entriesOf-in : (net : Net) (m : Counts) (e : Entry) → List·Memᴰ e (entriesOf net m) → (e .place < length (net .places)) × (inRanges (rangesAt (net .places) (e .place)) (e .colour) ≡ true) × (e .count ≡ m (e .place) (e .colour)) × (1 ≤ e .count)
+-- an entry that counts have on a net
+abbrev Marked : Net → Counts → Entry → Type 0
+Marked net m e = Listed m 0 (net .places) e (e .place)
+
+entriesOf-in : (net : Net) (m : Counts) (e : Entry) → List·Memᴰ e (entriesOf net m) → Marked net m e
 unfolding entriesOf
 entriesOf-in net m e k = by (entries-listed m 0 (net .places) e k)
   where
-    by : (i : ℕ) × Listed m 0 (net .places) e i → (e .place < length (net .places)) × (inRanges (rangesAt (net .places) (e .place)) (e .colour) ≡ true) × (e .count ≡ m (e .place) (e .colour)) × (1 ≤ e .count)
+    by : (i : ℕ) × Listed m 0 (net .places) e i → Marked net m e
     by s =
         let l = s .1 in
-        let same : e .place ≡ s .0 = omega arith in
-        (omega arith, subst (λ (i : ℕ). inRanges (rangesAt (net .places) i) (e .colour) ≡ true) (sym same) (l .colour), l .count, l .some)
+        let same : s .0 ≡ e .place = omega arith in
+        subst (λ (i : ℕ). Listed m 0 (net .places) e i) same l
 
-in-entriesOf : (net : Net) (m : Counts) (e : Entry) → e .place < length (net .places) → inRanges (rangesAt (net .places) (e .place)) (e .colour) ≡ true → e .count ≡ m (e .place) (e .colour) → 1 ≤ e .count → List·Memᴰ e (entriesOf net m)
+in-entriesOf : (net : Net) (m : Counts) (e : Entry) → Marked net m e → List·Memᴰ e (entriesOf net m)
 unfolding entriesOf
-in-entriesOf net m e h r c s = listed-entries m 0 (net .places) e (e .place) (record { inside = h; place = omega arith; colour = r; count = c; some = s })
+in-entriesOf net m e l = listed-entries m 0 (net .places) e (e .place) l
 
 pub entriesOf-good : (net : Net) (m : Counts) → Proper net m → Every (Good (net .places)) (entriesOf net m)
 entriesOf-good net m f = Every-of (Good (net .places)) (entriesOf net m) (λ e k. by e (entriesOf-in net m e k))
   where
-    by : (e : Entry) → (e .place < length (net .places)) × (inRanges (rangesAt (net .places) (e .place)) (e .colour) ≡ true) × (e .count ≡ m (e .place) (e .colour)) × (1 ≤ e .count) → Good (net .places) e
-    by e h = let l = f .limited (e .place) (e .colour) in record { placed = h .0; some = h .3; limited = omega arith; ranged = h .1 }
+    by : (e : Entry) → Marked net m e → Good (net .places) e
+    by e l = let h = f .limited (e .place) (e .colour) in record { placed = l .inside; some = l .some; limited = omega arith; ranged = l .colour }
 
 -- entries to counts to entries
 pub entries-again : (net : Net) (es : List Entry) → Rising entryKey es → Every (Good (net .places)) es → entriesOf net (countsOf es) ≡ es
@@ -279,16 +289,14 @@ entries-again net es r g = rising-unique entryKey (entriesOf net (countsOf es)) 
   where
     forth : (e : Entry) → List·Memᴰ e (entriesOf net (countsOf es)) → List·Memᴰ e es
     forth e k =
-        let h = entriesOf-in net (countsOf es) e k in
-        let n = h .2 in
-        let o = h .3 in
-        let s = counts-entry es r (e .place) (e .colour) (omega arith) in
-        Memᴰ·cast (entry-path e (s .0) (sym (s .2)) (n ∙ sym (s .4)) (sym (s .3))) (s .1)
+        let l = entriesOf-in net (countsOf es) e k in
+        let s = counts-some es (e .place) (e .colour) (omega arith) in
+        Memᴰ·cast (entry-path e (s .entry) (sym (s .place)) (l .count ∙ sym (found-count es r (e .place) (e .colour) s)) (sym (s .colour))) (s .member)
 
     back : (e : Entry) → List·Memᴰ e es → List·Memᴰ e (entriesOf net (countsOf es))
     back e k =
         let h = Every-at (Good (net .places)) g k in
-        in-entriesOf net (countsOf es) e (h .placed) (h .ranged) (sym (counts-member es r e k)) (h .some)
+        in-entriesOf net (countsOf es) e (record { inside = h .placed; place = omega arith; colour = h .ranged; count = sym (counts-member es r e k); some = h .some })
 
 -- counts to entries to counts
 pub counts-again : (net : Net) (m : Counts) → Proper net m → (p : ℕ) (c : List ℤ) → countsOf (entriesOf net m) p c ≡ m p c
@@ -297,13 +305,13 @@ counts-again net m f p c = by (m p c) refl (countsOf (entriesOf net m) p c) refl
     by : (n : ℕ) → m p c ≡ n → (k : ℕ) → countsOf (entriesOf net m) p c ≡ k → k ≡ n
     by zero q zero s = refl
     by zero q (suc k) s =
-        let e = counts-some (entriesOf net m) p c (omega arith) in
-        let h = entriesOf-in net m (e .0) (e .1) in
-        let n : m p c ≡ e .0 .count = rw (e .2, e .3) at (sym (h .2)) in
-        let o = h .3 in
+        let d = counts-some (entriesOf net m) p c (omega arith) in
+        let n : d .entry .count ≡ m p c = rw (d .place, d .colour) at (entriesOf-in net m (d .entry) (d .member) .count) in
+        let o = d .some in
         absurd (omega arith)
     by (suc n) q k s =
         let o : 1 ≤ m p c = omega arith in
         let d : Entry = record { place = p; count = m p c; colour = c } in
-        let own : countsOf (entriesOf net m) p c ≡ m p c = counts-member (entriesOf net m) (entriesOf-rise net m) d (in-entriesOf net m d (f .placed p c o) (f .ranged p c o) refl o) in
+        let l : Marked net m d = record { inside = f .placed p c o; place = omega arith; colour = f .ranged p c o; count = refl; some = o } in
+        let own : countsOf (entriesOf net m) p c ≡ m p c = counts-member (entriesOf net m) (entriesOf-rise net m) d (in-entriesOf net m d l) in
         sym s ∙ own ∙ q

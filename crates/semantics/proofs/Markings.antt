@@ -2,24 +2,22 @@
 -- counts, so no two accepted markings have the same counts, and its counts are proper; the words of proper counts, where they are no more
 -- than 16,384, are accepted and have these counts; a step from proper counts leads to proper counts.
 -- The idea: the entries between words and counts (Entries, ReadEntries). A flow adds to a count as an entry does.
-use mathlib.Core.Path.{_≡_, refl, sym, ap, _∙_, fun-ext}
+use mathlib.Core.Path.{_≡_, refl, sym, ap, _∙_, subst, fun-ext}
 use mathlib.Core.Logic.{_⊎_, inl, inr}
 use mathlib.Core.Bool.{true}
 use mathlib.Core.List.{List, [], _∷_, _++_, map, flatMap, append-nil, List·Memᴰ, List·Memᴰ·head, List·Memᴰ·tail, List·Memᴰ·not-nil, Memᴰ·of-map}
-use Prim.Native.Nat.{ℕ, zero, suc, _+_, _-_, _≤_, _<_}
+use Prim.Native.Nat.{ℕ, zero, suc, _+_, _≤_, _<_}
 use native.Mathlib.Omega.{arith}
 use lib.IntN.{ℤ}
-use lib.Signed.{mag}
 use lib.ListN.{length, drop, length-append}
 use lib.Seq.{drop-length}
 use Rattle.semantics.specs.Refusal.{badMarking, mostWords}
 use Rattle.semantics.specs.Lists.{Every}
-use Rattle.semantics.specs.Word.{Range}
-use Rattle.semantics.specs.Reading.{Reading, read, numbered}
+use Rattle.semantics.specs.Reading.{read, numbered}
 use Rattle.semantics.specs.Net.{Arc, Transition, Net, rangesAt}
 use Rattle.semantics.specs.Order.{before, Rising, inRanges}
 use Rattle.semantics.specs.Marking.{Entry, readEntries, readMarking, Counts, Proper, countsOf, markingWords}
-use Rattle.semantics.specs.Enabling.{Flow, total, effect, Moves, AllMove, Fits, Step}
+use Rattle.semantics.specs.Enabling.{Flow, total, effect, AllMove, Fits, Step}
 use Rattle.semantics.specs.Expression.{Environment, bound}
 use Rattle.semantics.proofs.Tests.{Every-at, Every-of}
 use Rattle.semantics.proofs.Entries.{entryKey, Good, wordsOfEntry, wordsOf, counts-some, counts-proper, entriesOf, entriesOf-words, entriesOf-rise, entriesOf-good, entries-again, counts-again}
@@ -80,7 +78,7 @@ words-accepted net ws es e g r short =
     }
 
 -- the words of proper counts, if they are not too many, are an accepted marking with these counts
-pub words-marking : (net : Net) → length (net .places) ≤ 64 → ((p : ℕ) (r : Range) → List·Memᴰ r (rangesAt (net .places) p) → (mag (r .low) < 8192) × (mag (r .high) < 8192)) → (m : Counts) → Proper net m → length (markingWords net m) ≤ mostWords → (es : List Entry) × (readMarking net (markingWords net m) ≡ read es (length (markingWords net m))) × (countsOf es ≡ m)
+pub words-marking : (net : Net) → length (net .places) ≤ 64 → ((p : ℕ) → Narrow (rangesAt (net .places) p)) → (m : Counts) → Proper net m → length (markingWords net m) ≤ mostWords → (es : List Entry) × (readMarking net (markingWords net m) ≡ read es (length (markingWords net m))) × (countsOf es ≡ m)
 unfolding readMarking
 words-marking net few narrow m f short = (entriesOf net m, ap (numbered badMarking) reads, fun-ext (λ p. fun-ext (λ c. counts-again net m f p c)))
   where
@@ -115,10 +113,8 @@ pub total-some : (fs : List Flow) (p : ℕ) (c : List ℤ) → 1 ≤ total fs p 
 unfolding flowEntry
 total-some fs p c h =
     let s = counts-some (map flowEntry fs) p c (rw (← total-counts fs p c) h) in
-    by (s .0) (s .2) (s .3) (s .4) (Memᴰ·of-map flowEntry fs (s .1))
-  where
-    by : (e : Entry) → e .place ≡ p → e .colour ≡ c → 1 ≤ e .count → (f : Flow) × List·Memᴰ f fs × (flowEntry f ≡ e) → (f : Flow) × List·Memᴰ f fs × (f .place ≡ p) × (f .colour ≡ c) × (1 ≤ f .amount)
-    by e x y z r = (r .0, r .1, ap (λ (d : Entry). d .place) (r .2) ∙ x, ap (λ (d : Entry). d .colour) (r .2) ∙ y, rw (← ap (λ (d : Entry). d .count) (r .2)) at z)
+    let r = Memᴰ·of-map flowEntry fs (s .member) in
+    (r .0, r .1, ap (λ (d : Entry). d .place) (r .2) ∙ s .place, ap (λ (d : Entry). d .colour) (r .2) ∙ s .colour, subst (λ (d : Entry). 1 ≤ d .count) (sym (r .2)) (s .some))
 
 -- every flow is moved by some arc
 pub flow-arc : (table : List ℕ) (env : Environment) (as′ : List Arc) (fs : List Flow) (f : Flow) → AllMove table env as′ fs → List·Memᴰ f fs → (a : Arc) × List·Memᴰ a as′ × (f .place ≡ a .place)

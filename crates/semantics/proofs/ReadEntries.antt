@@ -1,27 +1,26 @@
 -- Reading a marking's entries: what is accepted are good entries that rise by place and colour, whose words are the words read; and the
 -- words of such entries are accepted. Each way goes entry by entry, the key of the last one being handed on.
-use mathlib.Core.Path.{_≡_, refl, sym, ap, _∙_}
-use mathlib.Core.Logic.{_⊎_, inl, inr}
+use mathlib.Core.Path.{_≡_, refl, _∙_}
 use mathlib.Core.Bool.{Bool, true, false, cond, _&&_}
 use mathlib.Core.List.{List, [], _∷_, _++_, map, flatMap, append-assoc}
 use Prim.Native.Nat.{ℕ, zero, suc, _+_, _≤_, _<_, _^_}
 use native.Mathlib.Omega.{arith}
-use borrow.Author.Tests.{leb-true, leb-false, le-leb, lt-leb, lt-ltb, ltb-true}
+use borrow.Author.Tests.{leb-true, le-leb, lt-leb, lt-ltb, ltb-true}
 use lib.Dec.{leb, ltb}
 use lib.IntN.{ℤ}
-use lib.ListN.{length, drop, length-append, length-map, length-drop}
-use Rattle.semantics.specs.Refusal.{mostWords, mostCount}
+use lib.ListN.{length, drop, length-append, length-map}
+use Rattle.semantics.specs.Refusal.{mostWords}
 use Rattle.semantics.specs.Lists.{Every}
 use Rattle.semantics.specs.Word.{kind, payload, bits, only, tokenWord, valueWord}
-use Rattle.semantics.specs.Reading.{Reading, read, refused, then, demand, word, valuesIn}
+use Rattle.semantics.specs.Reading.{read, then, word, valuesIn}
 use Rattle.semantics.specs.Net.{Place, rangesAt}
-use Rattle.semantics.specs.Order.{before, Rising, inRanges}
-use Rattle.semantics.specs.Marking.{Entry, key, readEntry, rising, readEntries}
-use Rattle.semantics.proofs.Tests.{either, and-left, and-right, and-both, Every-at, Every-of}
+use Rattle.semantics.specs.Order.{before, Rising}
+use Rattle.semantics.specs.Marking.{Entry, readEntry, rising, readEntries}
+use Rattle.semantics.proofs.Tests.{and-left, and-right, Every-at, Every-of}
 use Rattle.semantics.proofs.Order.{before-trans}
 use Rattle.semantics.proofs.Words.{token-again, token-kind, token-stray, token-place, token-count}
 use Rattle.semantics.proofs.Entries.{entryKey, wordsOfEntry, wordsOf, Good}
-use Rattle.semantics.proofs.Readers.{refused-read, read-same, demand-read, then-read, then-demand, Span, span-none, span-append, drop-after, drop-first, word-read, word-reads, values-read, Narrow, values-reads}
+use Rattle.semantics.proofs.Readers.{read-same, demand-read, then-read, then-demand, Span, span-none, span-append, drop-after, drop-first, word-read, word-reads, values-read, Narrow, values-reads}
 
 -- ── One entry ──
 

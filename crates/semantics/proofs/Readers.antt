@@ -1,20 +1,20 @@
 -- What a reader that succeeds has read, and when it succeeds: one word, and the VALUE words of a tuple.
 -- The words from a position on are those that were read, and then the words from the next position on (`Span`). Each law follows the
 -- reader's definition; the way back starts from the words that stand at the position.
-use mathlib.Core.Path.{_≡_, refl, sym, ap, _∙_, subst}
+use mathlib.Core.Path.{_≡_, refl, sym, ap, _∙_}
 use mathlib.Core.Logic.{_⊎_, inl, inr}
 use mathlib.Core.Bool.{Bool, true, false, cond, _&&_}
 use mathlib.Core.List.{List, [], _∷_, _++_, map, append-assoc, List·Memᴰ, List·Memᴰ·head, List·Memᴰ·tail}
-use Prim.Native.Nat.{ℕ, zero, suc, _+_, _≤_, _<_, _^_}
+use Prim.Native.Nat.{ℕ, suc, _+_, _≤_, _<_, _^_}
 use native.Mathlib.Numerals.{add-one}
 use native.Mathlib.Omega.{arith}
 use borrow.Author.Tests.{leb-true, leb-false, lt-leb, lt-ltb, ltb-true, eqb-true, eq-eqb}
 use lib.Dec.{leb, eqb}
 use lib.IntN.{ℤ}
 use lib.Signed.{mag}
-use lib.ListN.{length, getD, drop, length-append, length-map, drop-of-length-le}
+use lib.ListN.{length, getD, drop, length-append, drop-of-length-le}
 use lib.Seq.{drop-cons, drop-drop, drop-append-seam}
-use Rattle.semantics.specs.Refusal.{mostWords}
+use Rattle.semantics.specs.Refusal.{netTooLong, netEndsEarly, badWord, mostWords}
 use Rattle.semantics.specs.Word.{kind, payload, only, signed, modulo, Range, within, valueWord}
 use Rattle.semantics.specs.Reading.{Reading, read, refused, then, demand, numbered, wordAt, word, valuesIn}
 use Rattle.semantics.specs.Order.{inRanges}
@@ -32,7 +32,7 @@ module _ {A : Type 0} where
 
   pub demand-read : (t : Bool) (p : ℕ) (r : Reading A) (a : A) (next : ℕ) → demand t p r ≡ read a next → (t ≡ true) × (r ≡ read a next)
   demand-read true p r a next e = (refl, e)
-  demand-read false p r a next e = refused-read 3 p a next e
+  demand-read false p r a next e = refused-read badWord p a next e
 
   pub numbered-read : (n : ℕ) (r : Reading A) (a : A) (next : ℕ) → numbered n r ≡ read a next → r ≡ read a next
   numbered-read n (read b at) a next e = e
@@ -45,7 +45,7 @@ then-read (refused n p) k b next e f = refused-read n p b next e
 
 pub then-demand : {A B : Type 0} (t : Bool) (p : ℕ) (a : A) (mid : ℕ) (k : A → ℕ → Reading B) (b : B) (next : ℕ) → then (demand t p (read a mid)) k ≡ read b next → (t ≡ true) × (k a mid ≡ read b next)
 then-demand true p a mid k b next e = (refl, e)
-then-demand false p a mid k b next e = refused-read 3 p b next e
+then-demand false p a mid k b next e = refused-read badWord p b next e
 
 -- ── Words at a position ──
 
@@ -97,9 +97,9 @@ word-read ws k ok at u next e = by (leb (length ws) at) refl (leb mostWords at) 
     w : ℕ
     w = getD ws at 0
 
-    by : (s : Bool) → leb (length ws) at ≡ s → (t : Bool) → leb mostWords at ≡ t → then (cond s (refused 2 (length ws)) (cond t (refused 1 mostWords) (read w (at + 1)))) (λ w next. demand (eqb (kind w) k && ok (payload w)) at (read (payload w) next)) ≡ read u next → (w : ℕ) × Span ws at (w ∷ []) next × (kind w ≡ k) × (payload w ≡ u) × (ok u ≡ true)
-    by true p t q e = refused-read 2 (length ws) u next e
-    by false p true q e = refused-read 1 mostWords u next e
+    by : (s : Bool) → leb (length ws) at ≡ s → (t : Bool) → leb mostWords at ≡ t → then (cond s (refused netEndsEarly (length ws)) (cond t (refused netTooLong mostWords) (read w (at + 1)))) (λ w next. demand (eqb (kind w) k && ok (payload w)) at (read (payload w) next)) ≡ read u next → (w : ℕ) × Span ws at (w ∷ []) next × (kind w ≡ k) × (payload w ≡ u) × (ok u ≡ true)
+    by true p t q e = refused-read netEndsEarly (length ws) u next e
+    by false p true q e = refused-read netTooLong mostWords u next e
     by false p false q e =
         let d = demand-read (eqb (kind w) k && ok (payload w)) at (read (payload w) (at + 1)) u next e in
         let same = read-same (payload w) u (at + 1) next (d .1) in
