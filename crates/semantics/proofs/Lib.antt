@@ -5,6 +5,6 @@ pub mod Order
 pub mod Tuples
 pub mod Words
 pub mod Entries
-pub mod Readers
+pub mod Spans
 pub mod ReadEntries
 pub mod Markings

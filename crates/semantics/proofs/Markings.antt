@@ -21,7 +21,7 @@ use Rattle.semantics.specs.Enabling.{Flow, total, effect, AllMove, Fits,
 use Rattle.semantics.specs.Expression.{Environment, bound}
 use Rattle.semantics.proofs.Tests.{Every-at, Every-of}
 use Rattle.semantics.proofs.Entries.{entryKey, Good, wordsOfEntry, wordsOf, counts-some, counts-proper, entriesOf, entriesOf-words, entriesOf-rise, entriesOf-good, entries-again, counts-again}
-use Rattle.semantics.proofs.Readers.{numbered-read, Narrow}
+use Rattle.semantics.proofs.Spans.{numbered-read, Narrow}
 use Rattle.semantics.proofs.ReadEntries.{Accepted, entries-read, entries-reads}
 
 -- ── Words to counts ──

@@ -20,7 +20,7 @@ use Rattle.semantics.proofs.Tests.{and-left, and-right, Every-at, Every
 use Rattle.semantics.proofs.Order.{before-trans}
 use Rattle.semantics.proofs.Words.{token-again, token-kind, token-stray, token-place, token-count}
 use Rattle.semantics.proofs.Entries.{entryKey, wordsOfEntry, wordsOf, Good}
-use Rattle.semantics.proofs.Readers.{read-same, demand-read, then-read, then-demand, Span, span-none, span-append, drop-after, drop-first, word-read, word-reads, values-read, Narrow, values-reads}
+use Rattle.semantics.proofs.Spans.{read-same, demand-read, then-read, then-demand, Span, span-none, span-append, drop-after, drop-first, word-read, word-reads, values-read, Narrow, values-reads}
 
 -- ── One entry ──
 
