@@ -14,3 +14,8 @@ pub mod Menu
 pub mod Offer
 pub mod Plans
 pub mod Run
+pub mod Words
+pub mod Entries
+pub mod Spans
+pub mod ReadEntries
+pub mod Markings
