@@ -19,3 +19,4 @@ pub mod Entries
 pub mod Spans
 pub mod ReadEntries
 pub mod Markings
+pub mod Reach

@@ -22,7 +22,7 @@ use Rattle.semantics.proofs.Step.{Occurrence, blocked, undelivered, ove
 -- ── A refusal is not 0 ──
 
 -- a stop has a number of at least 1
-abbrev Numbered : Move → Type 0
+abbrev pub Numbered : Move → Type 0
 Numbered (moved m) = Unit {0}
 Numbered (stopped n) = 1 ≤ n
 
@@ -59,7 +59,7 @@ module _ (table : List ℕ) (net : Net) (t : Transition) (m : Counts) where
       by false q = omega arith
 
 module _ (table : List ℕ) (net : Net) (l : Limits) where
-  pick-numbered : (m : Counts) (w : ℕ) → Numbered (pick table net l m w)
+  pub pick-numbered : (m : Counts) (w : ℕ) → Numbered (pick table net l m w)
   unfolding pick
   pick-numbered m w = by (getElem? (net .transitions) (pickTransition w))
     where
