@@ -19,7 +19,7 @@ use Rattle.semantics.specs.Word.{kind, payload, bits, only, between, sig
 use Rattle.semantics.specs.Expression.{Expression, everyVariable}
 use Rattle.semantics.specs.Reading.{read}
 use Rattle.semantics.specs.Net.{Place, Arc, Conjunct, Transition, Net, rangesAt}
-use Rattle.semantics.specs.ReadNet.{Token, constantToken, variableToken, binaryToken, loadToken, operatorToken, tokenOf, tokenAt, operands, expressionIn, readExpression, readRange, readPlace, readArc, readConjunct, readElement, transitionWord, readTransition, netWord, readNet}
+use Rattle.semantics.specs.ReadNet.{Head, constantHead, variableHead, binaryHead, loadHead, operatorHead, headOf, headAt, operands, expressionIn, readExpression, readRange, readPlace, readArc, readConjunct, readElement, transitionWord, readTransition, netWord, readNet}
 use Rattle.semantics.specs.Plan.{planFault, firstOf, plansFault, withPlans, acceptFront, acceptNet}
 use Rattle.semantics.proofs.Tests.{and-left, and-right, and-both}
 use Rattle.semantics.proofs.Readers.{Gives, gives, refusal, given, then-gives, demand-gives, cond-gives, as-read, Inside, ReadsFrom, Reads, done, after, several-reads, wordAt-reads, word-reads}
@@ -82,15 +82,15 @@ signed-small u h = by (ltb u 8192) refl
     by false e = omega (arith, ltb-false u 8192 e)
 
 -- the variable that a token names is below v
-abbrev SoundToken : ℕ → Token → Type 0
-SoundToken v (constantToken z) = Unit {0}
-SoundToken v (variableToken n) = ltb n v ≡ true
-SoundToken v (binaryToken o) = Unit {0}
-SoundToken v loadToken = Unit {0}
+abbrev SoundHead : ℕ → Head → Type 0
+SoundHead v (constantHead z) = Unit {0}
+SoundHead v (variableHead n) = ltb n v ≡ true
+SoundHead v (binaryHead o) = Unit {0}
+SoundHead v loadHead = Unit {0}
 
 module _ (ws : List ℕ) (v : ℕ) where
-  operator-reads : (code at next : ℕ) → ReadsFrom ws (SoundToken v) next (operatorToken code at next)
-  unfolding operatorToken
+  operator-reads : (code at next : ℕ) → ReadsFrom ws (SoundHead v) next (operatorHead code at next)
+  unfolding operatorHead
   operator-reads code at next =
       cond-gives (eqb code 0) (λ e. done tt) λ e.
       cond-gives (eqb code 1) (λ e. done tt) λ e.
@@ -99,8 +99,8 @@ module _ (ws : List ℕ) (v : ℕ) where
       cond-gives (eqb code 4) (λ e. done tt) λ e.
       refusal
 
-  token-reads : (stop : ℕ) → Reads ws (SoundToken v) (tokenAt ws v stop)
-  unfolding tokenAt tokenOf
+  token-reads : (stop : ℕ) → Reads ws (SoundHead v) (headAt ws v stop)
+  unfolding headAt headOf
   token-reads stop at =
       after (wordAt-reads ws) λ w next _.
       demand-gives (ltb at stop) at λ e.
@@ -114,11 +114,11 @@ module _ (ws : List ℕ) (v : ℕ) where
   rounds-read zero stop at = refusal
   rounds-read (suc n) stop at = after (token-reads stop) (by (rounds-read n stop))
     where
-      by : Reads ws (SoundExpression v) (expressionIn n ws v stop) → (t : Token) (mid : ℕ) → SoundToken v t → ReadsFrom ws (SoundExpression v) mid (operands (expressionIn n ws v stop) t mid)
-      by l (constantToken z) mid h = done refl
-      by l (variableToken m) mid h = done h
-      by l (binaryToken o) mid h = after l λ a _ p. after l λ b _ q. done (and-both _ _ p q)
-      by l loadToken mid h = after l λ a _ p. done p
+      by : Reads ws (SoundExpression v) (expressionIn n ws v stop) → (t : Head) (mid : ℕ) → SoundHead v t → ReadsFrom ws (SoundExpression v) mid (operands (expressionIn n ws v stop) t mid)
+      by l (constantHead z) mid h = done refl
+      by l (variableHead m) mid h = done h
+      by l (binaryHead o) mid h = after l λ a _ p. after l λ b _ q. done (and-both _ _ p q)
+      by l loadHead mid h = after l λ a _ p. done p
 
   expression-reads : Reads ws (SoundExpression v) (readExpression ws v)
   unfolding readExpression

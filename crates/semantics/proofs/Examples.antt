@@ -10,7 +10,7 @@ use Rattle.semantics.specs.declared.Listed.the-variants.{Found}
 use Rattle.semantics.specs.Word.{wordsOfBytes}
 use Rattle.semantics.specs.Expression.{Expression, houseTable, bound, operate, loadOf, value, valuesOf, everyVariable}
 use Rattle.semantics.specs.Reading.{Reading, read, refused, several, wordAt, word, valuesIn}
-use Rattle.semantics.specs.ReadNet.{operatorToken, tokenOf, tokenAt, expressionIn, readExpression, readRange, readPlace, readArc, readConjunct, readElement, readTransition, readNet}
+use Rattle.semantics.specs.ReadNet.{operatorHead, headOf, headAt, expressionIn, readExpression, readRange, readPlace, readArc, readConjunct, readElement, readTransition, readNet}
 use Rattle.semantics.specs.Plan.{loneUnbound, solution, newlyBound, member, everyBelow, planFault, plansFault, acceptFront, acceptNet}
 use Rattle.semantics.specs.Order.{sameInteger, sameTuple, before, valuesFrom, valuesOfRange, tuples, inRanges}
 use Rattle.semantics.specs.Marking.{readEntry, readEntries, readMarking, readBinding, countsOf}
@@ -58,8 +58,8 @@ nothingNet : List ℕ
 nothingNet = 0x10000101 ∷ 0x20000001 ∷ 0x30000000 ∷ 0x40000010 ∷ 0x50000000 ∷ 0x70000000 ∷ 0x70000000 ∷ []
 
 -- e: no variable, no input arc, no conjunct
-bareNet : List ℕ
-bareNet = 0x10000101 ∷ 0x20000001 ∷ 0x30000000 ∷ 0x40000000 ∷ []
+freeNet : List ℕ
+freeNet = 0x10000101 ∷ 0x20000001 ∷ 0x30000000 ∷ 0x40000000 ∷ []
 
 -- j: x from 0 to 9, an input arc of coefficient 1 and colour (x, x + 4), matched; a token each of (1, 5) and (1, 6)
 sumNet : List ℕ
@@ -77,7 +77,7 @@ pub record Table : Type 0 where
   c-one : testCall twiceNet 0 (0xB0000001 ∷ 0xC0000003 ∷ []) (0xC0000003 ∷ []) ≡ No
   c-two : testCall twiceNet 0 (0xB0000002 ∷ 0xC0000003 ∷ []) (0xC0000003 ∷ []) ≡ Yes
   d : testCall nothingNet 0 [] [] ≡ Yes
-  e : menuCall bareNet 0 [] 0 [] ≡ record { answer = Found 1 0; buffer = [] }
+  e : menuCall freeNet 0 [] 0 [] ≡ record { answer = Found 1 0; buffer = [] }
   f : calculated (0x90000003 ∷ 0x70003FF9 ∷ 0x70000003 ∷ []) ≡ read (some (pos 2)) 3
   g : calculated (0x90000003 ∷ 0x70000003 ∷ 0x70000000 ∷ []) ≡ read none 3
   h-exact : calculated (0x90000002 ∷ 0x90000002 ∷ 0x70001FFF ∷ 0x70001FFF ∷ 0x70000020 ∷ []) ≡ read (some (pos 2146959392)) 5
@@ -87,7 +87,7 @@ pub record Table : Type 0 where
   j : menuCall sumNet 0 sumMarking 1000000 (7 ∷ 7 ∷ []) ≡ record { answer = Found 1 2; buffer = 0xC0000001 ∷ 7 ∷ [] }
 
 pub examples : Table
-unfolding calculated pumpNet pump pumpBytes pumpText pumpMenu twiceNet nothingNet bareNet sumNet sumMarking bind flatMap wordsOfBytes operate loadOf value valuesOf everyVariable several wordAt word valuesIn operatorToken tokenOf tokenAt expressionIn readExpression readRange readPlace readArc readConjunct readElement readTransition readNet loneUnbound solution newlyBound member everyBelow planFault plansFault acceptFront acceptNet sameInteger sameTuple before valuesFrom valuesOfRange tuples inRanges readEntry readEntries readMarking readBinding countsOf every total holds flow flows covers isEnabled select coloursOn matched tries countTries gather triesFrom allTries leavesFrom leaves menu offer situation testCall menuCall digitsIn afterFirst fields menusText printed
+unfolding calculated pumpNet pump pumpBytes pumpText pumpMenu twiceNet nothingNet freeNet sumNet sumMarking bind flatMap wordsOfBytes operate loadOf value valuesOf everyVariable several wordAt word valuesIn operatorHead headOf headAt expressionIn readExpression readRange readPlace readArc readConjunct readElement readTransition readNet loneUnbound solution newlyBound member everyBelow planFault plansFault acceptFront acceptNet sameInteger sameTuple before valuesFrom valuesOfRange tuples inRanges readEntry readEntries readMarking readBinding countsOf every total holds flow flows covers isEnabled select coloursOn matched tries countTries gather triesFrom allTries leavesFrom leaves menu offer situation testCall menuCall digitsIn afterFirst fields menusText printed
 examples =
     record {
       a-test = refl;

@@ -13,9 +13,9 @@ use lib.IntN.{pos, negsuc}
 use lib.ListN.{length, getElem?}
 use Rattle.semantics.specs.Expression.{Expression, constant, variable, binary, load, everyVariable}
 use Rattle.semantics.specs.Net.{Arc, Relation, equal, unequal, less, atMost, Conjunct, Sort, match, solve, range, Element, Transition}
-use Rattle.semantics.specs.Plan.{loneUnbound, surelyTakes, solvedBy, Solution, eitherSide, isEquation, solution, matchBinds, solutionBinds, solveBinds, newlyBound, member, everyBelow, fitOr, planFault}
+use Rattle.semantics.specs.Plan.{loneUnbound, positiveConstant, solvedBy, Solution, eitherSide, isEquation, solution, matchBinds, solutionBinds, solveBinds, newlyBound, member, everyBelow, fitOr, planFault}
 use Rattle.semantics.proofs.Tests.{false-true, either, and-left, and-right, cond-true, cond-false}
-use Rattle.semantics.proofs.Partial.{none-some}
+use Rattle.semantics.proofs.Members.{none-some}
 
 nil-cons : {n : ℕ} {ns : List ℕ} {X : Type 0} → _≡_ {A = List ℕ} [] (n ∷ ns) → X
 nil-cons e = let z : _≡_ {A = ℕ} 0 1 = cc in absurd (omega arith)
@@ -29,7 +29,7 @@ pub record FitMatch (t : Transition) (isBound : ℕ → Bool) (k : ℕ) (ns : Li
   pub takes : arc .coefficient ≡ constant (pos (suc amount))
   pub binds : loneUnbound isBound (arc .components) ≡ ns
 
-takes-one : (e : Expression) → surelyTakes e ≡ true → (n : ℕ) × (e ≡ constant (pos (suc n)))
+takes-one : (e : Expression) → positiveConstant e ≡ true → (n : ℕ) × (e ≡ constant (pos (suc n)))
 takes-one (constant (pos zero)) h = false-true h
 takes-one (constant (pos (suc n))) h = (n, refl)
 takes-one (constant (negsuc n)) h = false-true h
@@ -41,15 +41,15 @@ pub fit-match : (t : Transition) (isBound : ℕ → Bool) (k n : ℕ) (ns : List
 unfolding newlyBound
 fit-match t isBound k n ns e = by (getElem? (t .inputs) k) refl e
   where
-    taken : (a : Arc) → getElem? (t .inputs) k ≡ some a → (surelyTakes (a .coefficient) ≡ true) ⊎ (surelyTakes (a .coefficient) ≡ false) → cond (surelyTakes (a .coefficient)) (loneUnbound isBound (a .components)) [] ≡ n ∷ ns → FitMatch t isBound k (n ∷ ns)
+    taken : (a : Arc) → getElem? (t .inputs) k ≡ some a → (positiveConstant (a .coefficient) ≡ true) ⊎ (positiveConstant (a .coefficient) ≡ false) → cond (positiveConstant (a .coefficient)) (loneUnbound isBound (a .components)) [] ≡ n ∷ ns → FitMatch t isBound k (n ∷ ns)
     taken a q (inl s) h =
         let w = takes-one (a .coefficient) s in
-        record { arc = a; named = q; amount = w .0; takes = w .1; binds = sym (cond-true (surelyTakes (a .coefficient)) (loneUnbound isBound (a .components)) [] s) ∙ h }
-    taken a q (inr s) h = nil-cons (sym (cond-false (surelyTakes (a .coefficient)) (loneUnbound isBound (a .components)) [] s) ∙ h)
+        record { arc = a; named = q; amount = w .0; takes = w .1; binds = sym (cond-true (positiveConstant (a .coefficient)) (loneUnbound isBound (a .components)) [] s) ∙ h }
+    taken a q (inr s) h = nil-cons (sym (cond-false (positiveConstant (a .coefficient)) (loneUnbound isBound (a .components)) [] s) ∙ h)
 
     by : (o : Option Arc) → getElem? (t .inputs) k ≡ o → matchBinds isBound o ≡ n ∷ ns → FitMatch t isBound k (n ∷ ns)
     by none q h = nil-cons h
-    by (some a) q h = taken a q (either (surelyTakes (a .coefficient))) h
+    by (some a) q h = taken a q (either (positiveConstant (a .coefficient))) h
 
 -- ── Solve ──
 

@@ -26,7 +26,8 @@ use Rattle.semantics.proofs.Tests.{false-true, either, and-both, not-bo
 use Rattle.semantics.proofs.Enabling.{enabled-marks, enabled-equal}
 use Rattle.semantics.proofs.Integers.{range-within, within-range}
 use Rattle.semantics.proofs.Tuples.{in-tuples}
-use Rattle.semantics.proofs.Partial.{none-some, at-length, length-at, at-member, member-append, everyBelow-at, range-length, range-at, bound-set, set-cases, present-some, Agrees, agrees-set, agrees-empty, value-agrees, agrees-full}
+use Rattle.semantics.proofs.Members.{none-some, at-length, length-at, at-member}
+use Rattle.semantics.proofs.Partial.{nothing-at, member-append, everyBelow-at, range-length, range-at, bound-set, set-cases, present-some, Agrees, agrees-set, agrees-empty, value-agrees, agrees-full}
 use Rattle.semantics.proofs.Fitness.{FitMatch, fit-match, Solves, solution-solves, FitSolve, fit-solve, FitRange, fit-range, Fit, plan-fit, plan-full}
 
 -- the two laws of an enabled binding that the search rests on
@@ -391,11 +392,6 @@ module _ (table : List ℕ) (net : Net) (t : Transition) (m : Counts) where
       leaf-below es (q .0) ((f .first ∷ f .others) ++ bs) (f .rest) (tries-ranged table net t m p (q .0) (f .first ∷ f .others) (member bs) g r) (tries-track table net t m p (q .0) (f .first ∷ f .others) bs g r k) x (q .2)
 
 -- ── From the empty binding ──
-
-nothing-at : (v n : ℕ) → partly (replicate v none) n ≡ none
-nothing-at zero n = refl
-nothing-at (suc v) zero = refl
-nothing-at (suc v) (suc n) = nothing-at v n
 
 empty-ranged : (t : Transition) → Ranged t (empty t)
 empty-ranged t = record { long = length-replicate (length (t .variables)) none; ranged = λ n z e. none-some (sym (nothing-at (length (t .variables)) n) ∙ e) }

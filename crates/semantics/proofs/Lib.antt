@@ -1,4 +1,5 @@
 pub mod Tests
+pub mod Members
 pub mod Examples
 pub mod Integers
 pub mod Order

@@ -19,28 +19,10 @@ use Rattle.semantics.specs.Net.{Transition}
 use Rattle.semantics.specs.Order.{inRanges}
 use Rattle.semantics.specs.Plan.{member, everyBelow}
 use Rattle.semantics.specs.Tries.{Partial, partly, present, isBoundIn}
+use Rattle.semantics.proofs.Members.{none-some}
 use Rattle.semantics.proofs.Tests.{false-true, either, and-left, and-right, not-both, same-test, or-cases, or-left, or-right}
 
--- ── Members by their number ──
-
-module _ {A : Type 0} where
-  pub none-some : {a : A} {X : Type 0} → _≡_ {A = Option A} none (some a) → X
-  none-some e = let z : _≡_ {A = ℕ} 0 1 = cc in absurd (omega arith)
-
-  pub at-length : (l : List A) (n : ℕ) (a : A) → getElem? l n ≡ some a → n < length l
-  at-length [] n a e = none-some e
-  at-length (x ∷ xs) zero a e = omega arith
-  at-length (x ∷ xs) (suc n) a e = let h = at-length xs n a e in omega arith
-
-  pub length-at : (l : List A) (n : ℕ) → n < length l → (a : A) × (getElem? l n ≡ some a)
-  length-at [] n h = absurd (not-suc-le-zero h)
-  length-at (x ∷ xs) zero h = (x, refl)
-  length-at (x ∷ xs) (suc n) h = length-at xs n (le-of-suc-le-suc h)
-
-  pub at-member : (l : List A) (n : ℕ) (a : A) → getElem? l n ≡ some a → List·Memᴰ a l
-  at-member [] n a e = none-some e
-  at-member (x ∷ xs) zero a e = let q : a ≡ x = cc in List·Memᴰ·head q
-  at-member (x ∷ xs) (suc n) a e = List·Memᴰ·tail (at-member xs n a e)
+-- ── Variables bound so far ──
 
 pub member-append : (xs ys : List ℕ) (n : ℕ) → member (xs ++ ys) n ≡ (member xs n || member ys n)
 unfolding member
@@ -115,13 +97,14 @@ agrees-set b p n z h e a = record { same = λ k y q. by k y (set-cases p n z k y
     by k y (inl q) = rw (q .0, q .1) e
     by k y (inr q) = a .same k y q
 
+-- nothing is bound in the empty binding
+pub nothing-at : (v n : ℕ) → partly (replicate v none) n ≡ none
+nothing-at zero n = refl
+nothing-at (suc v) zero = refl
+nothing-at (suc v) (suc n) = nothing-at v n
+
 pub agrees-empty : (b : List ℤ) (v : ℕ) → Agrees b (replicate v none)
-agrees-empty b v = record { same = λ n z e. none-some (sym (nothing v n) ∙ e) }
-  where
-    nothing : (v n : ℕ) → partly (replicate v none) n ≡ none
-    nothing zero n = refl
-    nothing (suc v) zero = refl
-    nothing (suc v) (suc n) = nothing v n
+agrees-empty b v = record { same = λ n z e. none-some (sym (nothing-at v n) ∙ e) }
 
 -- an expression of bound variables alone has the value that it has under the full binding
 pub value-agrees : (table : List ℕ) (b : List ℤ) (p : Partial) → Agrees b p → (e : Expression) → everyVariable (isBoundIn p) e ≡ true → value table (partly p) e ≡ value table (bound b) e

@@ -21,7 +21,8 @@ use Rattle.semantics.specs.Plan.{acceptNet}
 use Rattle.semantics.specs.Marking.{Entry, Counts, readEntry, readEntries, readMarking, countsOf}
 use Rattle.semantics.specs.Enabling.{Flow, holds, flow, flows, coversAll, isEnabled}
 use Rattle.semantics.specs.Run.{menu, Offer, offered, withheld, offer}
-use Rattle.semantics.specs.Calls.{written, known, Situation, situation, listedBy, listedIn, menuCall}
+use Rattle.semantics.specs.Calls.{written, existing, Situation, situation, listedBy, listedIn, menuCall}
+use Rattle.semantics.proofs.Members.{map-at}
 use Rattle.semantics.proofs.Offer.{Made, offer-made}
 
 -- ── Menus ──
@@ -76,11 +77,6 @@ same-marking : (n n′ : Net) (ws : List ℕ) → DifferInPlans n n′ → readM
 same-marking n n′ ws e = sym (bare-marking n ws) ∙ ap (λ (k : Net). readMarking k ws) e ∙ bare-marking n′ ws
 
 -- ── Transitions by their numbers ──
-
-map-at : {A B : Type 0} (f : A → B) (l : List A) (n : ℕ) → getElem? (map f l) n ≡ Option·map f (getElem? l n)
-map-at f [] n = refl
-map-at f (x ∷ xs) zero = refl
-map-at f (x ∷ xs) (suc n) = map-at f xs n
 
 same-transition : (n n′ : Net) (k : ℕ) (t t′ : Transition) → DifferInPlans n n′ → getElem? (n .transitions) k ≡ some t → getElem? (n′ .transitions) k ≡ some t′ → bareTransition t ≡ bareTransition t′
 same-transition n n′ k t t′ e p q =

@@ -23,14 +23,14 @@ use Rattle.semantics.specs.Expression.{houseTable}
 use Rattle.semantics.specs.Reading.{Reading, read, refused, then}
 use Rattle.semantics.specs.Net.{Place, Arc, Transition, Net, rangesAt}
 use Rattle.semantics.specs.Plan.{acceptNet}
-use Rattle.semantics.specs.Marking.{Entry, Counts, Proper, readMarking, countsOf, markingWords, isPick, pickTransition, pickIndex, firstThat, firstStrange, firstMalformed}
-use Rattle.semantics.specs.Enabling.{Move, moved, stopped, occur, effect, Step}
+use Rattle.semantics.specs.Marking.{Entry, Counts, Proper, readMarking, countsOf, markingWords, isPick, pickTransition, pickIndex, firstThat, firstUnknown, firstMalformed}
+use Rattle.semantics.specs.Enabling.{Firing, moved, stopped, occur, effect, Step}
 use Rattle.semantics.specs.Tries.{allTries}
 use Rattle.semantics.specs.Run.{menu, Offer, offered, withheld, menuFits, offer, hasRoom, roomed, fire, Limits, fireAt, pickFrom, pickOf, pick, End, goOn, plainRun}
-use Rattle.semantics.specs.Calls.{RunEnd, Start, markingIn, clear, start, ranTo, limits, ranFrom, runCall, zeroed}
-use Rattle.semantics.specs.Reach.{Leg, Chain, arrived, along, Ends}
+use Rattle.semantics.specs.Calls.{RunEnd, Start, markingIn, refusedAt, start, ranTo, limits, ranFrom, runCall, zeroed}
+use Rattle.semantics.specs.Reach.{StepWithin, OccurrenceSequence, stay, occurs, Ends}
 use Rattle.semantics.proofs.Tests.{false-true, either, and-left, and-right, and-both, cond-true, cond-false, Every-at}
-use Rattle.semantics.proofs.Partial.{none-some, at-length, at-member}
+use Rattle.semantics.proofs.Members.{at-length, at-member, member-at}
 use Rattle.semantics.proofs.Accepted.{Valued, SoundPlace, SoundArc, SoundTransition, SoundNet, accepted-sound}
 use Rattle.semantics.proofs.Step.{step-occurs, occurs-step}
 use Rattle.semantics.proofs.Menu.{menu-members}
@@ -57,16 +57,12 @@ outputs-there net sound t k a j = Every-at (SoundArc (net .places) (length (t .v
 stopped-moved : {n : ℕ} {m : Counts} {X : Type 0} → stopped n ≡ moved m → X
 stopped-moved e = let z : _≡_ {A = ℕ} 0 1 = cc in absurd (omega arith)
 
-member-at : {A : Type 0} {xs : List A} {x : A} → List·Memᴰ x xs → (i : ℕ) × (getElem? xs i ≡ some x)
-member-at (List·Memᴰ·head e) = (zero, ap some (sym e))
-member-at (List·Memᴰ·tail k) = let r = member-at k in (suc (r .0), r .1)
-
 -- the PICK word of a transition and an index
 pickWord : ℕ → ℕ → ℕ
 pickWord t i = 0xD * 2 ^ 28 + t * 2 ^ 14 + i
 
 module _ (table : List ℕ) (net : Net) (l : Limits) (sound : SoundNet net) where
-  room-moved : (x : Move) (m′ : Counts) → roomed net (l .room) x ≡ moved m′ → (x ≡ moved m′) × (hasRoom net (l .room) m′ ≡ true)
+  room-moved : (x : Firing) (m′ : Counts) → roomed net (l .room) x ≡ moved m′ → (x ≡ moved m′) × (hasRoom net (l .room) m′ ≡ true)
   room-moved (stopped n) m′ e = stopped-moved e
   room-moved (moved m₁) m′ e = by (either (hasRoom net (l .room) m₁))
     where
@@ -77,11 +73,11 @@ module _ (table : List ℕ) (net : Net) (l : Limits) (sound : SoundNet net) wher
           (f, subst (λ (k : Counts). hasRoom net (l .room) k ≡ true) g h)
       by (inr h) = stopped-moved (sym (cond-false (hasRoom net (l .room) m₁) (moved m₁) (stopped overRoom) h) ∙ e)
 
-  pick-leg : (m m′ : Counts) (w : ℕ) → Proper net m → pick table net l m w ≡ moved m′ → Leg table net l m m′
+  pick-leg : (m m′ : Counts) (w : ℕ) → Proper net m → pick table net l m w ≡ moved m′ → StepWithin table net l m m′
   unfolding pick fire
   pick-leg m m′ w proper e = by-transition (getElem? (net .transitions) (pickTransition w)) refl e
     where
-      leg : (t : Transition) → getElem? (net .transitions) (pickTransition w) ≡ some t → Made table net (l .budget) (l .menu) t m (menu table t m) (allTries table net t m) → (b : List ℤ) → getElem? (menu table t m) (pickIndex w) ≡ some b → roomed net (l .room) (occur table net t m b) ≡ moved m′ → Leg table net l m m′
+      leg : (t : Transition) → getElem? (net .transitions) (pickTransition w) ≡ some t → Made table net (l .budget) (l .menuRoom) t m (menu table t m) (allTries table net t m) → (b : List ℤ) → getElem? (menu table t m) (pickIndex w) ≡ some b → roomed net (l .room) (occur table net t m b) ≡ moved m′ → StepWithin table net l m m′
       leg t p d b q h =
           let o = menu-members table t m b .0 (at-member (menu table t m) (pickIndex w) b q) in
           let r = room-moved (occur table net t m b) m′ h in
@@ -95,25 +91,25 @@ module _ (table : List ℕ) (net : Net) (l : Limits) (sound : SoundNet net) wher
             step = s .0;
             leads = s .1;
             covered = leb-true _ _ (d .paid);
-            few = leb-true (length (menu table t m)) mostBindings (and-left (leb (length (menu table t m)) mostBindings) (leb (length (menu table t m) * length (t .variables)) (l .menu)) (d .fits));
-            fits = leb-true (length (menu table t m) * length (t .variables)) (l .menu) (and-right (leb (length (menu table t m)) mostBindings) (leb (length (menu table t m) * length (t .variables)) (l .menu)) (d .fits));
+            few = leb-true (length (menu table t m)) mostBindings (and-left (leb (length (menu table t m)) mostBindings) (leb (length (menu table t m) * length (t .variables)) (l .menuRoom)) (d .fits));
+            fits = leb-true (length (menu table t m) * length (t .variables)) (l .menuRoom) (and-right (leb (length (menu table t m)) mostBindings) (leb (length (menu table t m) * length (t .variables)) (l .menuRoom)) (d .fits));
             room = leb-true (length (markingWords net m′)) (l .room) (and-left (leb (length (markingWords net m′)) (l .room)) (leb (length (markingWords net m′)) mostWords) (r .1));
             short = leb-true (length (markingWords net m′)) mostWords (and-right (leb (length (markingWords net m′)) (l .room)) (leb (length (markingWords net m′)) mostWords) (r .1));
           }
 
-      by-binding : (t : Transition) → getElem? (net .transitions) (pickTransition w) ≡ some t → Made table net (l .budget) (l .menu) t m (menu table t m) (allTries table net t m) → (o : Option (List ℤ)) → getElem? (menu table t m) (pickIndex w) ≡ o → fireAt table net l t m o ≡ moved m′ → Leg table net l m m′
+      by-binding : (t : Transition) → getElem? (net .transitions) (pickTransition w) ≡ some t → Made table net (l .budget) (l .menuRoom) t m (menu table t m) (allTries table net t m) → (o : Option (List ℤ)) → getElem? (menu table t m) (pickIndex w) ≡ o → fireAt table net l t m o ≡ moved m′ → StepWithin table net l m m′
       by-binding t p d none q h = stopped-moved h
       by-binding t p d (some b) q h = leg t p d b q h
 
-      by-offer : (t : Transition) → getElem? (net .transitions) (pickTransition w) ≡ some t → (o : Offer) → offer table net (l .budget) (l .menu) t m ≡ o → pickFrom table net l t m (pickIndex w) o ≡ moved m′ → Leg table net l m m′
+      by-offer : (t : Transition) → getElem? (net .transitions) (pickTransition w) ≡ some t → (o : Offer) → offer table net (l .budget) (l .menuRoom) t m ≡ o → pickFrom table net l t m (pickIndex w) o ≡ moved m′ → StepWithin table net l m m′
       by-offer t p (withheld n) q h = stopped-moved h
       by-offer t p (offered bs v) q h =
-          let d = offer-made table net (l .budget) (l .menu) t m bs v q in
+          let d = offer-made table net (l .budget) (l .menuRoom) t m bs v q in
           by-binding t p (rw (← d .counted, ← d .whole) d) (getElem? (menu table t m) (pickIndex w)) refl (rw (d .whole) at h)
 
-      by-transition : (o : Option Transition) → getElem? (net .transitions) (pickTransition w) ≡ o → pickOf table net l m (pickIndex w) o ≡ moved m′ → Leg table net l m m′
+      by-transition : (o : Option Transition) → getElem? (net .transitions) (pickTransition w) ≡ o → pickOf table net l m (pickIndex w) o ≡ moved m′ → StepWithin table net l m m′
       by-transition none p h = stopped-moved h
-      by-transition (some t) p h = by-offer t p (offer table net (l .budget) (l .menu) t m) refl h
+      by-transition (some t) p h = by-offer t p (offer table net (l .budget) (l .menuRoom) t m) refl h
 
   -- what a step's pick is: a well-formed word of a transition that there is, which leads where the step leads
   pub record Picks (m m′ : Counts) (w : ℕ) : Type 0 where
@@ -130,7 +126,7 @@ module _ (table : List ℕ) (net : Net) (l : Limits) (sound : SoundNet net) wher
         (omega arith, omega arith),
       )
 
-  leg-pick : (m m′ : Counts) → Leg table net l m m′ → (w : ℕ) × Picks m m′ w
+  leg-pick : (m m′ : Counts) → StepWithin table net l m m′ → (w : ℕ) × Picks m m′ w
   unfolding pick fire
   leg-pick m m′ g = (pickWord (g .number) (i .0), record { well-formed = f .0; there = rw (f .1 .0) small; leads = fired })
     where
@@ -148,11 +144,11 @@ module _ (table : List ℕ) (net : Net) (l : Limits) (sound : SoundNet net) wher
           let d = small in
           pick-fields (g .number) (i .0) (omega arith) (omega arith)
 
-      made : offer table net (l .budget) (l .menu) (g .transition) m ≡ offered (menu table (g .transition) m) (allTries table net (g .transition) m)
+      made : offer table net (l .budget) (l .menuRoom) (g .transition) m ≡ offered (menu table (g .transition) m) (allTries table net (g .transition) m)
       made =
-          made-offer table net (l .budget) (l .menu) (g .transition) m
+          made-offer table net (l .budget) (l .menuRoom) (g .transition) m
           (le-leb _ _ (g .covered))
-          (and-both (leb (length (menu table (g .transition) m)) mostBindings) (leb (length (menu table (g .transition) m) * length (g .transition .variables)) (l .menu)) (le-leb _ _ (g .few)) (le-leb _ _ (g .fits)))
+          (and-both (leb (length (menu table (g .transition) m)) mostBindings) (leb (length (menu table (g .transition) m) * length (g .transition .variables)) (l .menuRoom)) (le-leb _ _ (g .few)) (le-leb _ _ (g .fits)))
 
       arrives : fire table net (l .room) (g .transition) m (g .binding) ≡ moved m′
       arrives =
@@ -162,7 +158,7 @@ module _ (table : List ℕ) (net : Net) (l : Limits) (sound : SoundNet net) wher
       fired : pick table net l m (pickWord (g .number) (i .0)) ≡ moved m′
       fired = rw (f .1 .0, f .1 .1, g .named, made, i .1) arrives
 
-  leg-proper : (m m′ : Counts) → Proper net m → Leg table net l m m′ → Proper net m′
+  leg-proper : (m m′ : Counts) → Proper net m → StepWithin table net l m m′ → Proper net m′
   leg-proper m m′ proper g =
       subst (Proper net) (sym (g .leads)) (step-proper table net (g .transition) m (g .binding) proper (outputs-there net sound (g .transition) (at-member (net .transitions) (g .number) (g .transition) (g .named))) (g .step))
 
@@ -170,19 +166,19 @@ module _ (table : List ℕ) (net : Net) (l : Limits) (sound : SoundNet net) wher
 
   -- a run that no pick stopped is a chain of as many steps
   record Ran (m : Counts) (done : ℕ) (picks : List ℕ) : Type 0 where
-    chain : Chain table net l (length picks) m (plainRun table net l m done picks .counts)
+    chain : OccurrenceSequence table net l (length picks) m (plainRun table net l m done picks .counts)
     proper : Proper net (plainRun table net l m done picks .counts)
 
   run-chain : (picks : List ℕ) (m : Counts) (done : ℕ) → Proper net m → plainRun table net l m done picks .refusal ≡ 0 → Ran m done picks
   unfolding plainRun
-  run-chain [] m done p e = record { chain = arrived; proper = p }
+  run-chain [] m done p e = record { chain = stay; proper = p }
   run-chain (w ∷ ws) m done p e = by (pick table net l m w) refl (pick-numbered table net l m w) (λ m′. run-chain ws m′ (done + 1))
     where
-      by : (x : Move) → pick table net l m w ≡ x → Numbered (pick table net l m w) → ((m′ : Counts) → Proper net m′ → plainRun table net l m′ (done + 1) ws .refusal ≡ 0 → Ran m′ (done + 1) ws) → Ran m done (w ∷ ws)
+      by : (x : Firing) → pick table net l m w ≡ x → Numbered (pick table net l m w) → ((m′ : Counts) → Proper net m′ → plainRun table net l m′ (done + 1) ws .refusal ≡ 0 → Ran m′ (done + 1) ws) → Ran m done (w ∷ ws)
       by (moved m′) q h f =
           let g = pick-leg m m′ w p q in
           let r = f m′ (leg-proper m m′ p g) (rw q at e) in
-          record { chain = rw q (along g (r .chain)); proper = rw q (r .proper) }
+          record { chain = rw q (occurs g (r .chain)); proper = rw q (r .proper) }
       by (stopped n) q h f =
           let z : n ≡ 0 = rw q at e in
           let o : 1 ≤ n = rw q at h in
@@ -196,10 +192,10 @@ module _ (table : List ℕ) (net : Net) (l : Limits) (sound : SoundNet net) wher
     there : (w : ℕ) → List·Memᴰ w picks → pickTransition w < length (net .transitions)
     run : (done : ℕ) → plainRun table net l m done picks ≡ record { counts = m″; done = done + k; refusal = 0 }
 
-  chain-run : {k : ℕ} {m m″ : Counts} → Chain table net l k m m″ → Run k m m″
+  chain-run : {k : ℕ} {m m″ : Counts} → OccurrenceSequence table net l k m m″ → Run k m m″
   unfolding plainRun
-  chain-run arrived = record { picks = []; many = refl; well-formed = λ w k. absurd (List·Memᴰ·not-nil k); there = λ w k. absurd (List·Memᴰ·not-nil k); run = λ done. rw add-zero }
-  chain-run (along {k} {m} {m′} {m″} g c) = by (leg-pick m m′ g) (chain-run c)
+  chain-run stay = record { picks = []; many = refl; well-formed = λ w k. absurd (List·Memᴰ·not-nil k); there = λ w k. absurd (List·Memᴰ·not-nil k); run = λ done. rw add-zero }
+  chain-run (occurs {k} {m} {m′} {m″} g c) = by (leg-pick m m′ g) (chain-run c)
     where
       by : (w : ℕ) × Picks m m′ w → Run k m′ m″ → Run (suc k) m m″
       by w r =
@@ -248,15 +244,15 @@ module _ (nw : List ℕ) (net : Net) (next : ℕ) (is-net : acceptNet nw ≡ rea
   given : Start
   given = record { net = net; counts = countsOf es }
 
-  starts : (picks : List ℕ) → firstStrange (length (net .transitions)) picks ≡ none → firstMalformed picks ≡ none → start nw buffer m picks ≡ read given 0
+  starts : (picks : List ℕ) → firstUnknown (length (net .transitions)) picks ≡ none → firstMalformed picks ≡ none → start nw buffer m picks ≡ read given 0
   unfolding start given
   starts picks p q = rw (is-net, p, is-first, q)
 
   started : (picks : List ℕ) (s : Start) → start nw buffer m picks ≡ read s 0 → start nw buffer m picks ≡ read given 0
   unfolding start given
-  started picks s h = by (firstStrange (length (net .transitions)) picks) (firstMalformed picks) refl refl
+  started picks s h = by (firstUnknown (length (net .transitions)) picks) (firstMalformed picks) refl refl
     where
-      by : (p q : Option ℕ) → firstStrange (length (net .transitions)) picks ≡ p → firstMalformed picks ≡ q → start nw buffer m picks ≡ read given 0
+      by : (p q : Option ℕ) → firstUnknown (length (net .transitions)) picks ≡ p → firstMalformed picks ≡ q → start nw buffer m picks ≡ read given 0
       by none none x y = starts picks x y
       by (some a) q x y = refused-read noTransition a s 0 (rw (is-net, x) at h)
       by none (some a) x y = refused-read badPick a s 0 (rw (is-net, x, is-first, y) at h)
@@ -278,7 +274,7 @@ module _ (nw : List ℕ) (net : Net) (next : ℕ) (is-net : acceptNet nw ≡ rea
       let r : w .0 ≡ fs = cc in
       sym (w .2) ∙ ap countsOf r
 
-  reached : (k : ℕ) → (picks : List ℕ) × (length picks ≡ k) × Ends nw budget buffer m spare menu picks last → Chain houseTable net (limits budget buffer spare menu) k (countsOf es) (countsOf fs)
+  reached : (k : ℕ) → (picks : List ℕ) × (length picks ≡ k) × Ends nw budget buffer m spare menu picks last → OccurrenceSequence houseTable net (limits budget buffer spare menu) k (countsOf es) (countsOf fs)
   unfolding end
   reached k r =
       let e = sym (ran (r .0) (started (r .0) (r .2 .handed) (r .2 .accepted))) ∙ r .2 .end in
@@ -289,7 +285,7 @@ module _ (nw : List ℕ) (net : Net) (next : ℕ) (is-net : acceptNet nw ≡ rea
       let q = same-counts (end (r .0) .counts) (c .proper) w in
       rw (← q, ← r .1) (c .chain)
 
-  reaching : (k : ℕ) → Chain houseTable net (limits budget buffer spare menu) k (countsOf es) (countsOf fs) → (picks : List ℕ) × (length picks ≡ k) × Ends nw budget buffer m spare menu picks last
+  reaching : (k : ℕ) → OccurrenceSequence houseTable net (limits budget buffer spare menu) k (countsOf es) (countsOf fs) → (picks : List ℕ) × (length picks ≡ k) × Ends nw budget buffer m spare menu picks last
   unfolding end
   reaching k c = (r .picks, r .many, record { handed = given; accepted = accepted; end = ran (r .picks) accepted ∙ arrives })
     where
@@ -305,5 +301,5 @@ module _ (nw : List ℕ) (net : Net) (next : ℕ) (is-net : acceptNet nw ≡ rea
       arrives : ranTo net buffer spare menu (end (r .picks)) ≡ record { answer = record { done = length (r .picks); refusal = 0; position = 0; length = length last }; buffer = last ++ replicate (length buffer - length last) 0; spare = zeroed spare; menu = zeroed menu }
       arrives = ap (ranTo net buffer spare menu) (r .run 0) ∙ rw (all, marking-words net last fs j is-last)
 
-  pub reach : (k : ℕ) → ((picks : List ℕ) × (length picks ≡ k) × Ends nw budget buffer m spare menu picks last) ↔ Chain houseTable net (limits budget buffer spare menu) k (countsOf es) (countsOf fs)
+  pub reach : (k : ℕ) → ((picks : List ℕ) × (length picks ≡ k) × Ends nw budget buffer m spare menu picks last) ↔ OccurrenceSequence houseTable net (limits budget buffer spare menu) k (countsOf es) (countsOf fs)
   reach k = (reached k, reaching k)

@@ -14,7 +14,7 @@ use lib.ListN.{getElem?}
 use Rattle.semantics.specs.Refusal.{overBudget, overMenu, overRoom}
 use Rattle.semantics.specs.Net.{Transition, Net}
 use Rattle.semantics.specs.Marking.{Counts, pickTransition, pickIndex}
-use Rattle.semantics.specs.Enabling.{Move, moved, stopped, occur}
+use Rattle.semantics.specs.Enabling.{Firing, moved, stopped, occur}
 use Rattle.semantics.specs.Tries.{allTries}
 use Rattle.semantics.specs.Run.{menu, Offer, offered, withheld, menuFits, offer, hasRoom, roomed, fire, Limits, fireAt, pickFrom, pickOf, pick, End, goOn, plainRun}
 use Rattle.semantics.proofs.Step.{Occurrence, blocked, undelivered, overfull, stepped, occur-cases}
@@ -22,12 +22,12 @@ use Rattle.semantics.proofs.Step.{Occurrence, blocked, undelivered, ove
 -- ── A refusal is not 0 ──
 
 -- a stop has a number of at least 1
-abbrev pub Numbered : Move → Type 0
+abbrev pub Numbered : Firing → Type 0
 Numbered (moved m) = Unit {0}
 Numbered (stopped n) = 1 ≤ n
 
 module _ (table : List ℕ) (net : Net) (t : Transition) (m : Counts) where
-  occurrence-numbered : {b : List ℤ} {x : Move} → Occurrence table net t m b x → Numbered x
+  occurrence-numbered : {b : List ℤ} {x : Firing} → Occurrence table net t m b x → Numbered x
   occurrence-numbered (blocked e) = omega arith
   occurrence-numbered (undelivered e d) = omega arith
   occurrence-numbered (overfull e d w) = omega arith
@@ -41,13 +41,13 @@ module _ (table : List ℕ) (net : Net) (t : Transition) (m : Counts) where
       tested true m′ = tt
       tested false m′ = omega arith
 
-      by : (x : Move) → Numbered x → Numbered (roomed net room x)
+      by : (x : Firing) → Numbered x → Numbered (roomed net room x)
       by (moved m′) h = tested (hasRoom net room m′) m′
       by (stopped n) h = h
 
-  offer-numbered : (l : Limits) (index : ℕ) → Numbered (pickFrom table net l t m index (offer table net (l .budget) (l .menu) t m))
+  offer-numbered : (l : Limits) (index : ℕ) → Numbered (pickFrom table net l t m index (offer table net (l .budget) (l .menuRoom) t m))
   unfolding offer
-  offer-numbered l index = by (leb (allTries table net t m) (l .budget)) (menuFits t (l .menu) (menu table t m))
+  offer-numbered l index = by (leb (allTries table net t m) (l .budget)) (menuFits t (l .menuRoom) (menu table t m))
     where
       at : (o : Option (List ℤ)) → Numbered (fireAt table net l t m o)
       at none = omega arith
@@ -77,7 +77,7 @@ module _ (table : List ℕ) (net : Net) (l : Limits) where
   run-append [] q m done = refl
   run-append (w ∷ p) q m done = by (pick table net l m w) (pick-numbered m w) (λ m′. run-append p q m′ (done + 1))
     where
-      by : (x : Move) → Numbered x → ((m′ : Counts) → plainRun table net l m′ (done + 1) (p ++ q) ≡ further (plainRun table net l m′ (done + 1) p) q) → goOn m done x (λ m′. plainRun table net l m′ (done + 1) (p ++ q)) ≡ further (goOn m done x (λ m′. plainRun table net l m′ (done + 1) p)) q
+      by : (x : Firing) → Numbered x → ((m′ : Counts) → plainRun table net l m′ (done + 1) (p ++ q) ≡ further (plainRun table net l m′ (done + 1) p) q) → goOn m done x (λ m′. plainRun table net l m′ (done + 1) (p ++ q)) ≡ further (goOn m done x (λ m′. plainRun table net l m′ (done + 1) p)) q
       by (moved m′) h f = f m′
       by (stopped n) h f = sym (ap (λ (t : Bool). cond t (plainRun table net l m done q) (record { counts = m; done = done; refusal = n })) (ne-eqb n 0 (λ e. omega arith)))
 

@@ -19,9 +19,9 @@ use Rattle.semantics.specs.Expression.{bound}
 use Rattle.semantics.specs.Net.{Transition, Net, rangesAt}
 use Rattle.semantics.specs.Order.{inRanges}
 use Rattle.semantics.specs.Marking.{Counts}
-use Rattle.semantics.specs.Enabling.{Flow, effect, Enabled, Fits, Delivers, Step, flows, isEnabled, Move, moved, stopped, fits, withinCounts, occurBy, occur}
-use Rattle.semantics.proofs.Tests.{either, not-both, or-cases, or-left, or-right, every-at, every-of}
-use Rattle.semantics.proofs.Enabling.{every-sound, every-complete, at-named, flows-move, move-flows, moves-unique, enabled-sound, enabled-complete}
+use Rattle.semantics.specs.Enabling.{Flow, effect, Enabled, Fits, Delivers, Step, flows, isEnabled, Firing, moved, stopped, fits, withinCounts, occurBy, occur}
+use Rattle.semantics.proofs.Tests.{either, not-both, or-cases, or-left, or-right, every-at, every-of, every-sound, every-complete}
+use Rattle.semantics.proofs.Enabling.{at-named, flows-move, move-flows, moves-unique, enabled-sound, enabled-complete}
 
 -- ── What 14 and 15 test ──
 
@@ -53,7 +53,7 @@ module _ (m : Counts) (ins outs : List Flow) where
 -- ── Occurrences ──
 
 -- each result of an occurrence with what is then the case
-pub data Occurrence (table : List ℕ) (net : Net) (t : Transition) (m : Counts) (b : List ℤ) : Move → Type 0 where
+pub data Occurrence (table : List ℕ) (net : Net) (t : Transition) (m : Counts) (b : List ℤ) : Firing → Type 0 where
   blocked : ¬ Enabled table t m b → Occurrence table net t m b (stopped notEnabled)
   undelivered : Enabled table t m b → ¬ Delivers table net t b → Occurrence table net t m b (stopped badOutput)
   overfull : (e : Enabled table t m b) (d : Delivers table net t b) → withinCounts m (e .taken) (d .made) ≡ false → Occurrence table net t m b (stopped overCount)
@@ -103,14 +103,14 @@ module _ (table : List ℕ) (net : Net) (t : Transition) (m : Counts) (b : List 
   pub step-occurs : (s : Step table net t m b) → occur table net t m b ≡ moved (effect m (s .enabled .taken) (s .delivers .made))
   step-occurs s = by occur-cases
     where
-      by : {x : Move} → Occurrence table net t m b x → x ≡ moved (effect m (s .enabled .taken) (s .delivers .made))
+      by : {x : Firing} → Occurrence table net t m b x → x ≡ moved (effect m (s .enabled .taken) (s .delivers .made))
       by (blocked n) = absurd (n (s .enabled))
       by (undelivered e n) = absurd (n (s .delivers))
       by (overfull e d w) = absurd (not-both _ (all-within m (e .taken) (d .made) (subst Limited (after-unique (s .enabled) e (s .delivers) d) (s .within))) w)
       by (stepped e d w) = ap moved (after-unique e (s .enabled) d (s .delivers))
 
   -- what is the case for a result that is known
-  known : {x : Move} → occur table net t m b ≡ x → Occurrence table net t m b x
+  known : {x : Firing} → occur table net t m b ≡ x → Occurrence table net t m b x
   known q = subst (Occurrence table net t m b) q occur-cases
 
   pub occurs-step : Limited m → (m′ : Counts) → occur table net t m b ≡ moved m′ → (s : Step table net t m b) × (m′ ≡ effect m (s .enabled .taken) (s .delivers .made))
@@ -126,7 +126,7 @@ module _ (table : List ℕ) (net : Net) (t : Transition) (m : Counts) (b : List 
       to : Occurrence table net t m b (stopped notEnabled) → ¬ Enabled table t m b
       to (blocked n) = n
 
-      from : {x : Move} → Occurrence table net t m b x → ¬ Enabled table t m b → x ≡ stopped notEnabled
+      from : {x : Firing} → Occurrence table net t m b x → ¬ Enabled table t m b → x ≡ stopped notEnabled
       from (blocked n) h = refl
       from (undelivered e n) h = absurd (h e)
       from (overfull e d w) h = absurd (h e)
@@ -138,7 +138,7 @@ module _ (table : List ℕ) (net : Net) (t : Transition) (m : Counts) (b : List 
       to : Occurrence table net t m b (stopped badOutput) → Enabled table t m b × ¬ Delivers table net t b
       to (undelivered e n) = (e, n)
 
-      from : {x : Move} → Occurrence table net t m b x → Enabled table t m b × ¬ Delivers table net t b → x ≡ stopped badOutput
+      from : {x : Firing} → Occurrence table net t m b x → Enabled table t m b × ¬ Delivers table net t b → x ≡ stopped badOutput
       from (blocked n) h = absurd (n (h .0))
       from (undelivered e n) h = refl
       from (overfull e d w) h = absurd (h .1 d)
@@ -153,7 +153,7 @@ module _ (table : List ℕ) (net : Net) (t : Transition) (m : Counts) (b : List 
       to : Occurrence table net t m b (stopped overCount) → Over
       to (overfull e d w) = (e, (d, λ h. not-both _ (all-within m (e .taken) (d .made) h) w))
 
-      from : {x : Move} → Occurrence table net t m b x → Over → x ≡ stopped overCount
+      from : {x : Firing} → Occurrence table net t m b x → Over → x ≡ stopped overCount
       from (blocked n) h = absurd (n (h .0))
       from (undelivered e n) h = absurd (n (h .1 .0))
       from (overfull e d w) h = refl

@@ -145,3 +145,21 @@ module _ {A : Type 0} (P : A → Type 0) where
   pub Every-of : (xs : List A) → ((x : A) → List·Memᴰ x xs → P x) → Every P xs
   Every-of [] f = tt
   Every-of (x ∷ xs) f = (f x (List·Memᴰ·head refl), Every-of xs (λ y k. f y (List·Memᴰ·tail k)))
+
+-- a list that fails a test has a member that fails it
+pub every-fails : {A : Type 0} (p : A → Bool) (xs : List A) → every p xs ≡ false → (x : A) × List·Memᴰ x xs × (p x ≡ false)
+unfolding every
+every-fails p [] e = false-true (sym e)
+every-fails {A} p (x ∷ xs) e = by (every-fails p xs) (either (p x))
+  where
+    by : (every p xs ≡ false → (y : A) × List·Memᴰ y xs × (p y ≡ false)) → (p x ≡ true) ⊎ (p x ≡ false) → (y : A) × List·Memᴰ y (x ∷ xs) × (p y ≡ false)
+    by later (inl q) = let h = later (ap (λ (t : Bool). t && every p xs) (sym q) ∙ e) in (h .0, List·Memᴰ·tail (h .1), h .2)
+    by later (inr q) = (x, List·Memᴰ·head refl, q)
+
+-- a test that is sound or complete for a property is so for every member
+module _ {A : Type 0} (p : A → Bool) (P : A → Type 0) (xs : List A) where
+  pub every-sound : ((x : A) → p x ≡ true → P x) → every p xs ≡ true → Every P xs
+  every-sound f e = Every-of P xs (λ x k. f x (every-at p e k))
+
+  pub every-complete : ((x : A) → P x → p x ≡ true) → Every P xs → every p xs ≡ true
+  every-complete f e = every-of p xs (λ x k. f x (Every-at P e k))

@@ -22,8 +22,8 @@ use Rattle.semantics.specs.Expression.{houseTable}
 use Rattle.semantics.specs.Reading.{Reading, read, refused, then}
 use Rattle.semantics.specs.Net.{Transition, Net}
 use Rattle.semantics.specs.Plan.{acceptFront, acceptNet}
-use Rattle.semantics.specs.Marking.{Entry, Counts, readMarking, readBinding, firstStrange, firstMalformed, countsOf, markingWords}
-use Rattle.semantics.specs.Enabling.{isEnabled, Move, moved, stopped}
+use Rattle.semantics.specs.Marking.{Entry, Counts, readMarking, readBinding, firstUnknown, firstMalformed, countsOf, markingWords}
+use Rattle.semantics.specs.Enabling.{isEnabled, Firing, moved, stopped}
 use Rattle.semantics.specs.Run.{Offer, offered, withheld, offer, fire, Limits, End, plainRun}
 use Rattle.semantics.specs.Answer.{Refusal, unrefused}
 
@@ -58,9 +58,9 @@ splitCall ws = splitBy ws (acceptFront ws)
 
 -- ── The input that test, menu and fire share ──
 
-abbrev pub known : {A : Type 0} → Option A → Reading A
-known none = refused noTransition 0
-known (some a) = read a 0
+abbrev pub existing : {A : Type 0} → Option A → Reading A
+existing none = refused noTransition 0
+existing (some a) = read a 0
 
 -- an accepted net, one of its transitions, and the counts of an accepted marking
 pub record Situation : Type 0 where
@@ -71,7 +71,7 @@ pub record Situation : Type 0 where
 -- 1 to 5, then 6, then 7
 unfoldable pub situation : List ℕ → ℕ → List ℕ → Reading Situation
 situation net t marking =
-    then (acceptNet net) (λ n e. then (known (getElem? (n .transitions) t)) (λ tr e. then (readMarking n marking) (λ es e. read (record { net = n; transition = tr; counts = countsOf es }) 0)))
+    then (acceptNet net) (λ n e. then (existing (getElem? (n .transitions) t)) (λ tr e. then (readMarking n marking) (λ es e. read (record { net = n; transition = tr; counts = countsOf es }) 0)))
 
 -- ── Test ──
 
@@ -117,7 +117,7 @@ pub record FireEnd : Type 0 where
   pub buffer : List ℕ
 
 -- "After 13 to 16, fire's buffer stays"
-abbrev pub firedBy : Net → List ℕ → Move → FireEnd
+abbrev pub firedBy : Net → List ℕ → Firing → FireEnd
 firedBy net buffer (moved m) = record { answer = Written (length (markingWords net m)); buffer = written (markingWords net m) buffer }
 firedBy net buffer (stopped n) = record { answer = FireRefused n 0; buffer = buffer }
 
@@ -150,14 +150,14 @@ pub record Start : Type 0 where
 unfoldable pub markingIn : Net → List ℕ → ℕ → Reading (List Entry)
 markingIn net buffer m = cond (leb m (length buffer)) (readMarking net (take m buffer)) (refused badMarking (length buffer))
 
-abbrev pub clear : ℕ → Option ℕ → Reading (Unit {0})
-clear n none = read tt 0
-clear n (some p) = refused n p
+abbrev pub refusedAt : ℕ → Option ℕ → Reading (Unit {0})
+refusedAt n none = read tt 0
+refusedAt n (some p) = refused n p
 
 -- 1 to 5, then 6, then 7, then 9
 unfoldable pub start : List ℕ → List ℕ → ℕ → List ℕ → Reading Start
 start net buffer m picks =
-    then (acceptNet net) (λ n e. then (clear noTransition (firstStrange (length (n .transitions)) picks)) (λ u e. then (markingIn n buffer m) (λ es e. then (clear badPick (firstMalformed picks)) (λ u e. read (record { net = n; counts = countsOf es }) 0))))
+    then (acceptNet net) (λ n e. then (refusedAt noTransition (firstUnknown (length (n .transitions)) picks)) (λ u e. then (markingIn n buffer m) (λ es e. then (refusedAt badPick (firstMalformed picks)) (λ u e. read (record { net = n; counts = countsOf es }) 0))))
 
 -- "the buffer holds the marking after those, the rest of it, spare and menu are zeroed"
 abbrev pub ranTo : Net → List ℕ → List ℕ → List ℕ → End → RunEnd
@@ -171,7 +171,7 @@ ranTo net buffer spare menu e =
 
 -- "Room for a marking is the shorter of buffer and spare."
 abbrev pub limits : ℕ → List ℕ → List ℕ → List ℕ → Limits
-limits budget buffer spare menu = record { budget = budget; menu = length menu; room = min (length buffer) (length spare) }
+limits budget buffer spare menu = record { budget = budget; menuRoom = length menu; room = min (length buffer) (length spare) }
 
 abbrev pub ranFrom : ℕ → List ℕ → List ℕ → List ℕ → List ℕ → Reading Start → RunEnd
 ranFrom budget buffer spare menu picks (read s next) = ranTo (s .net) buffer spare menu (plainRun houseTable (s .net) (limits budget buffer spare menu) (s .counts) 0 picks)

@@ -1,5 +1,6 @@
 -- 01, "Enabling and stepping": enabled bindings, steps and their effect. Each is stated as a proposition, in the form of source 001,
--- Definition 4.4, and as a test that computes; proofs/Enabling.antt and proofs/Step.antt show that the two agree.
+-- Definition 4.4, and as a test that computes. proofs/Enabling.antt shows that the two agree for enabling at all counts, and
+-- proofs/Step.antt for steps at counts of at most 16,383, which every marking has.
 -- Rests on Net, Order and Marking.
 use mathlib.Core.Path.{_≡_}
 use Prim.Native.Nat.{ℕ, zero, suc, _+_, _-_, _≤_}
@@ -125,9 +126,9 @@ unfoldable pub isEnabled : List ℕ → Transition → Counts → List ℤ → B
 isEnabled table t m b = every (holds table (bound b)) (t .guard) && coversAll m (flows table (bound b) (t .inputs))
 
 -- where an occurrence leads: to new counts, or it is refused with a number
-pub data Move : Type 0 where
-  moved : Counts → Move
-  stopped : ℕ → Move
+pub data Firing : Type 0 where
+  moved : Counts → Firing
+  stopped : ℕ → Firing
 
 abbrev pub fits : Net → Flow → Bool
 fits net f = eqb (f .amount) 0 || inRanges (rangesAt (net .places) (f .place)) (f .colour)
@@ -137,11 +138,11 @@ abbrev pub withinCounts : Counts → List Flow → List Flow → Bool
 withinCounts m ins outs = every (λ f. leb (effect m ins outs (f .place) (f .colour)) mostCount) outs
 
 -- 14, then 15
-abbrev pub occurBy : Net → Counts → Option (List Flow) → Option (List Flow) → Move
+abbrev pub occurBy : Net → Counts → Option (List Flow) → Option (List Flow) → Firing
 occurBy net m none outs = stopped notEnabled
 occurBy net m (some ins) none = stopped badOutput
 occurBy net m (some ins) (some outs) = cond (every (fits net) outs) (cond (withinCounts m ins outs) (moved (effect m ins outs)) (stopped overCount)) (stopped badOutput)
 
 -- 13, then 14, then 15
-unfoldable pub occur : List ℕ → Net → Transition → Counts → List ℤ → Move
+unfoldable pub occur : List ℕ → Net → Transition → Counts → List ℤ → Firing
 occur table net t m b = cond (isEnabled table t m b) (occurBy net m (flows table (bound b) (t .inputs)) (flows table (bound b) (t .outputs))) (stopped notEnabled)

@@ -28,18 +28,18 @@ abbrev pub given : {A : Type 0} → Bool → A → Option A
 given true a = some a
 given false a = none
 
--- "Results are exact. A result outside -2^31 to 2^31-1 is no value." mag is n both for n and for -(n + 1).
-abbrev pub exact : ℤ → Option ℤ
-exact z = given (ltb (mag z) (2 ^ 31)) z
+-- "Results are exact. A result outside -2^31 to 2^31-1 is no value." A result within these bounds; mag is n both for n and for -(n + 1).
+abbrev pub bounded : ℤ → Option ℤ
+bounded z = given (ltb (mag z) (2 ^ 31)) z
 
 -- "Remainder by d > 0 lies in 0 to d-1; by d ≤ 0 it is no value."
 abbrev pub remainderOf : ℤ → ℤ → Option ℤ
 remainderOf x d = given (ltZ (pos 0) d) (pos (modulo x (natAbs d)))
 
 unfoldable pub operate : Operator → ℤ → ℤ → Option ℤ
-operate add x y = exact (x +ℤ y)
-operate subtract x y = exact (x -ℤ y)
-operate multiply x y = exact (x *ℤ y)
+operate add x y = bounded (x +ℤ y)
+operate subtract x y = bounded (x -ℤ y)
+operate multiply x y = bounded (x *ℤ y)
 operate remainder x y = remainderOf x y
 
 -- "the house table of full tiller load in pump units, depth 0 to 15"

@@ -64,8 +64,8 @@ firstThat p [] at = none
 firstThat p (w ∷ ws) at = let later = firstThat p ws (at + 1) in cond (p w) (some at) later
 
 -- 6: "in a run, that of the first well-formed such pick"
-abbrev pub firstStrange : ℕ → List ℕ → Option ℕ
-firstStrange transitions picks = firstThat (λ w. isPick w && leb transitions (pickTransition w)) picks 0
+abbrev pub firstUnknown : ℕ → List ℕ → Option ℕ
+firstUnknown transitions picks = firstThat (λ w. isPick w && leb transitions (pickTransition w)) picks 0
 
 -- 9: "pick of wrong kind or stray bits"
 abbrev pub firstMalformed : List ℕ → Option ℕ
@@ -75,7 +75,7 @@ firstMalformed picks = firstThat (λ w. not (isPick w)) picks 0
 abbrev pub Counts : Type 0
 Counts = ℕ → List ℤ → ℕ
 
--- Counts as a marking can have them: colours of the net's places alone, and none above 16,383.
+-- Counts whose words are a marking if they are no more than 16,384: colours of the net's places alone, and none above 16,383.
 pub record Proper (net : Net) (m : Counts) : Type 0 where
   pub placed : (p : ℕ) (c : List ℤ) → 1 ≤ m p c → p < length (net .places)
   pub ranged : (p : ℕ) (c : List ℤ) → 1 ≤ m p c → inRanges (rangesAt (net .places) p) c ≡ true

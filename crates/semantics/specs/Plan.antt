@@ -1,5 +1,5 @@
 -- 01, "Plans and tries": what an element binds, and refusal 5.
--- Rests on Reading and Net.
+-- Rests on Expression, Reading, Net and ReadNet.
 use Prim.Native.Nat.{ℕ, zero, suc}
 use mathlib.Core.Bool.{Bool, true, false, cond, not, _&&_, _||_}
 use mathlib.Core.List.{List, [], _∷_, _++_}
@@ -23,12 +23,12 @@ loneUnbound isBound (binary o a b ∷ es) = loneUnbound isBound es
 loneUnbound isBound (load a ∷ es) = loneUnbound isBound es
 
 -- "an input arc whose coefficient is one CONSTANT ≥ 1"
-abbrev pub surelyTakes : Expression → Bool
-surelyTakes (constant (pos n)) = leb 1 n
-surelyTakes (constant (negsuc n)) = false
-surelyTakes (variable n) = false
-surelyTakes (binary o a b) = false
-surelyTakes (load a) = false
+abbrev pub positiveConstant : Expression → Bool
+positiveConstant (constant (pos n)) = leb 1 n
+positiveConstant (constant (negsuc n)) = false
+positiveConstant (variable n) = false
+positiveConstant (binary o a b) = false
+positiveConstant (load a) = false
 
 -- "an unbound variable alone on one side .. and only bound variables on the other": the variable
 abbrev pub solvedBy : (ℕ → Bool) → Expression → Expression → Option ℕ
@@ -60,7 +60,7 @@ solution isBound c =
     cond (isEquation (c .relation)) (eitherSide (solvedBy isBound (c .left) (c .right)) (solvedBy isBound (c .right) (c .left)) (c .left) (c .right)) none
 
 abbrev pub matchBinds : (ℕ → Bool) → Option Arc → List ℕ
-matchBinds isBound (some a) = cond (surelyTakes (a .coefficient)) (loneUnbound isBound (a .components)) []
+matchBinds isBound (some a) = cond (positiveConstant (a .coefficient)) (loneUnbound isBound (a .components)) []
 matchBinds isBound none = []
 
 abbrev pub solutionBinds : Option Solution → List ℕ

@@ -1,5 +1,5 @@
--- Demand 3 on runs: what steps reach. A chain of steps over counts and bindings; nothing here mentions picks, indices or an order.
--- Rests on Enabling, Tries, Run and Calls.
+-- Demand 3 on runs: what steps reach, as occurrence sequences over counts and bindings, which mention no picks, indices or order; and how
+-- a run ends that reaches it. Rests on Enabling, Tries, Run and Calls.
 use mathlib.Core.Path.{_≡_}
 use Prim.Native.Nat.{ℕ, zero, suc, _*_, _-_, _≤_}
 use mathlib.Core.Bool.{true}
@@ -19,7 +19,7 @@ use Rattle.semantics.specs.Calls.{zeroed, Start, start, runCall}
 
 -- One step: a binding in range of one of the net's transitions that is a step and leads from m to m′.
 -- "the budget covers it if its W is at most the budget, and it fits if 11 doesn't apply. A new marking finds room if 16 doesn't apply."
-pub record Leg (table : List ℕ) (net : Net) (l : Limits) (m m′ : Counts) : Type 0 where
+pub record StepWithin (table : List ℕ) (net : Net) (l : Limits) (m m′ : Counts) : Type 0 where
   pub number : ℕ
   pub transition : Transition
   pub named : getElem? (net .transitions) number ≡ some transition
@@ -29,14 +29,14 @@ pub record Leg (table : List ℕ) (net : Net) (l : Limits) (m m′ : Counts) : T
   pub leads : m′ ≡ effect m (step .enabled .taken) (step .delivers .made)
   pub covered : allTries table net transition m ≤ l .budget
   pub few : length (menu table transition m) ≤ mostBindings
-  pub fits : length (menu table transition m) * length (transition .variables) ≤ l .menu
+  pub fits : length (menu table transition m) * length (transition .variables) ≤ l .menuRoom
   pub room : length (markingWords net m′) ≤ l .room
   pub short : length (markingWords net m′) ≤ mostWords
 
 -- k steps lead from m to m′
-pub data Chain (table : List ℕ) (net : Net) (l : Limits) : ℕ → Counts → Counts → Type 0 where
-  arrived : {m : Counts} → Chain table net l zero m m
-  along : {k : ℕ} {m m′ m″ : Counts} → Leg table net l m m′ → Chain table net l k m′ m″ → Chain table net l (suc k) m m″
+pub data OccurrenceSequence (table : List ℕ) (net : Net) (l : Limits) : ℕ → Counts → Counts → Type 0 where
+  stay : {m : Counts} → OccurrenceSequence table net l zero m m
+  occurs : {k : ℕ} {m m′ m″ : Counts} → StepWithin table net l m m′ → OccurrenceSequence table net l k m′ m″ → OccurrenceSequence table net l (suc k) m m″
 
 -- A list of picks is accepted, and its run ends with all of them done, no refusal and the marking `last`.
 pub record Ends (net : List ℕ) (budget : ℕ) (buffer : List ℕ) (m : ℕ) (spare menu picks last : List ℕ) : Type 0 where

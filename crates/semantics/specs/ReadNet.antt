@@ -13,44 +13,44 @@ use Rattle.semantics.specs.Expression.{Operator, add, subtract, multiply
 use Rattle.semantics.specs.Reading.{Reading, read, refused, then, Reader, _>>=_, give, here, several, demand, wordAt, word}
 use Rattle.semantics.specs.Net.{Place, Arc, Relation, equal, unequal, less, atMost, Conjunct, Sort, match, solve, range, Element, Transition, Net, rangesAt}
 
--- what the first word of an expression says
-pub data Token : Type 0 where
-  constantToken : ℤ → Token
-  variableToken : ℕ → Token
-  binaryToken : Operator → Token
-  loadToken : Token
+-- what the first word of an expression is
+pub data Head : Type 0 where
+  constantHead : ℤ → Head
+  variableHead : ℕ → Head
+  binaryHead : Operator → Head
+  loadHead : Head
 
 -- "OPERATOR: 0 add, 1 subtract, 2 multiply, 3 remainder, 4 load"
-unfoldable pub operatorToken : ℕ → ℕ → ℕ → Reading Token
-operatorToken code at next =
-    cond (eqb code 0) (read (binaryToken add) next)
-    (cond (eqb code 1) (read (binaryToken subtract) next)
-    (cond (eqb code 2) (read (binaryToken multiply) next)
-    (cond (eqb code 3) (read (binaryToken remainder) next)
-    (cond (eqb code 4) (read loadToken next)
+unfoldable pub operatorHead : ℕ → ℕ → ℕ → Reading Head
+operatorHead code at next =
+    cond (eqb code 0) (read (binaryHead add) next)
+    (cond (eqb code 1) (read (binaryHead subtract) next)
+    (cond (eqb code 2) (read (binaryHead multiply) next)
+    (cond (eqb code 3) (read (binaryHead remainder) next)
+    (cond (eqb code 4) (read loadHead next)
     (refused badWord at)))))
 
 -- "CONSTANT: 0-13 value", "VARIABLE: 0-2 number", which is one of the transition's
-unfoldable pub tokenOf : ℕ → ℕ → ℕ → ℕ → Reading Token
-tokenOf variables w at next =
-    cond (eqb (kind w) 7) (demand (only 14 (payload w)) at (read (constantToken (signed (payload w))) next))
-    (cond (eqb (kind w) 8) (demand (ltb (payload w) variables) at (read (variableToken (payload w)) next))
-    (cond (eqb (kind w) 9) (operatorToken (payload w) at next)
+unfoldable pub headOf : ℕ → ℕ → ℕ → ℕ → Reading Head
+headOf variables w at next =
+    cond (eqb (kind w) 7) (demand (only 14 (payload w)) at (read (constantHead (signed (payload w))) next))
+    (cond (eqb (kind w) 8) (demand (ltb (payload w) variables) at (read (variableHead (payload w)) next))
+    (cond (eqb (kind w) 9) (operatorHead (payload w) at next)
     (refused badWord at)))
 
--- the token at a position; a word that exists at the position `stop` is the sixteenth of its expression
-unfoldable pub tokenAt : List ℕ → ℕ → ℕ → Reader Token
-tokenAt ws variables stop at = then (wordAt ws at) (λ w next. demand (ltb at stop) at (tokenOf variables w at next))
+-- the head at a position; a word that exists at the position `stop` is the sixteenth of its expression
+unfoldable pub headAt : List ℕ → ℕ → ℕ → Reader Head
+headAt ws variables stop at = then (wordAt ws at) (λ w next. demand (ltb at stop) at (headOf variables w at next))
 
 -- "An OPERATOR word is followed by its operands, each an expression: one for load, two for the rest."
-abbrev pub operands : Reader Expression → Token → Reader Expression
-operands r (constantToken z) = give (constant z)
-operands r (variableToken n) = give (variable n)
-operands r (binaryToken o) = do
+abbrev pub operands : Reader Expression → Head → Reader Expression
+operands r (constantHead z) = give (constant z)
+operands r (variableHead n) = give (variable n)
+operands r (binaryHead o) = do
   a ← r
   b ← r
   give (binary o a b)
-operands r loadToken = do
+operands r loadHead = do
   a ← r
   give (load a)
 
@@ -58,7 +58,7 @@ operands r loadToken = do
 unfoldable pub expressionIn : ℕ → List ℕ → ℕ → ℕ → Reader Expression
 expressionIn zero ws variables stop = λ at. refused badWord at
 expressionIn (suc n) ws variables stop = do
-  t ← tokenAt ws variables stop
+  t ← headAt ws variables stop
   operands (expressionIn n ws variables stop) t
 
 -- "an expression at most 15" words

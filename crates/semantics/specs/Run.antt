@@ -12,7 +12,7 @@ use Rattle.semantics.specs.Lists.{select}
 use Rattle.semantics.specs.Net.{Transition, Net}
 use Rattle.semantics.specs.Order.{tuples}
 use Rattle.semantics.specs.Marking.{Counts, markingWords, pickTransition, pickIndex}
-use Rattle.semantics.specs.Enabling.{isEnabled, Move, moved, stopped, occur}
+use Rattle.semantics.specs.Enabling.{isEnabled, Firing, moved, stopped, occur}
 use Rattle.semantics.specs.Tries.{allTries}
 
 -- 01's menu, the list of enabled bindings: "all bindings of the pick's transition, keeps those enabled under its counts .. by rising variable 0"
@@ -37,35 +37,35 @@ offer table net budget room t m =
 abbrev pub hasRoom : Net → ℕ → Counts → Bool
 hasRoom net room m = leb (length (markingWords net m)) room && leb (length (markingWords net m)) mostWords
 
-abbrev pub roomed : Net → ℕ → Move → Move
+abbrev pub roomed : Net → ℕ → Firing → Firing
 roomed net room (moved m) = cond (hasRoom net room m) (moved m) (stopped overRoom)
 roomed net room (stopped n) = stopped n
 
 -- 13, then 14, 15 and 16
-unfoldable pub fire : List ℕ → Net → ℕ → Transition → Counts → List ℤ → Move
+unfoldable pub fire : List ℕ → Net → ℕ → Transition → Counts → List ℤ → Firing
 fire table net room t m b = roomed net room (occur table net t m b)
 
 -- What a run is handed beside marking and picks: budget, length of the menu buffer, room for a marking.
 pub record Limits : Type 0 where
   pub budget : ℕ
-  pub menu : ℕ
+  pub menuRoom : ℕ
   pub room : ℕ
 
 -- 12: "pick index not below N"
-abbrev pub fireAt : List ℕ → Net → Limits → Transition → Counts → Option (List ℤ) → Move
+abbrev pub fireAt : List ℕ → Net → Limits → Transition → Counts → Option (List ℤ) → Firing
 fireAt table net l t m none = stopped noSuchIndex
 fireAt table net l t m (some b) = fire table net (l .room) t m b
 
-abbrev pub pickFrom : List ℕ → Net → Limits → Transition → Counts → ℕ → Offer → Move
+abbrev pub pickFrom : List ℕ → Net → Limits → Transition → Counts → ℕ → Offer → Firing
 pickFrom table net l t m index (withheld n) = stopped n
 pickFrom table net l t m index (offered bs w) = fireAt table net l t m (getElem? bs index)
 
-abbrev pub pickOf : List ℕ → Net → Limits → Counts → ℕ → Option Transition → Move
+abbrev pub pickOf : List ℕ → Net → Limits → Counts → ℕ → Option Transition → Firing
 pickOf table net l m index none = stopped noTransition
-pickOf table net l m index (some t) = pickFrom table net l t m index (offer table net (l .budget) (l .menu) t m)
+pickOf table net l m index (some t) = pickFrom table net l t m index (offer table net (l .budget) (l .menuRoom) t m)
 
 -- "A pick fires the binding at its index in its transition's menu; each pick has the whole budget."
-unfoldable pub pick : List ℕ → Net → Limits → Counts → ℕ → Move
+unfoldable pub pick : List ℕ → Net → Limits → Counts → ℕ → Firing
 pick table net l m w = pickOf table net l m (pickIndex w) (getElem? (net .transitions) (pickTransition w))
 
 -- where a run ends: counts, picks done, and the refusal that stopped it or 0
@@ -75,7 +75,7 @@ pub record End : Type 0 where
   pub refusal : ℕ
 
 -- "A stop changes neither counts nor picks done, and later picks aren't looked at."
-abbrev pub goOn : Counts → ℕ → Move → (Counts → End) → End
+abbrev pub goOn : Counts → ℕ → Firing → (Counts → End) → End
 goOn m done (moved m′) k = k m′
 goOn m done (stopped n) k = record { counts = m; done = done; refusal = n }
 

@@ -44,7 +44,7 @@ pub record Range : Type 0 where
 abbrev pub within : Range → ℤ → Bool
 within r z = leZ (r .low) z && leZ z (r .high)
 
--- "an entry is TOKEN and n VALUEs": the words as they are written
+-- "A marking is entries of TOKEN and n VALUEs": these words as they are written
 abbrev pub tokenWord : ℕ → ℕ → ℕ
 tokenWord place count = 0xB * 2 ^ 28 + place * 2 ^ 14 + count
 

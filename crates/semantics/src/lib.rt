@@ -14,7 +14,7 @@ pub enum Tested {
     Refused(u32, usize),
 }
 
-// Menu: the number of enabled bindings and the tries of the search.
+// Menu: the number of enabled bindings, N, and the tries of the transition's plan, W.
 pub enum Listed {
     Found(u32, u32),
     Refused(u32, usize),
