@@ -1,0 +1,4 @@
+pub mod Exact
+pub mod Loads
+pub mod Read
+pub mod Words

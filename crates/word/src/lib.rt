@@ -1,0 +1,6 @@
+// The leaf functions on words and signed numbers. Each contract is one equation with a definition of semantics/specs.
+
+// Fields of words, values, and the words that are written.
+pub mod fields;
+// Numbers that may be missing: operators, the load table and relations.
+pub mod number;
