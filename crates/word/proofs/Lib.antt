@@ -1,4 +1,4 @@
-pub mod Exact
+pub mod Bounded
 pub mod Loads
 pub mod Read
 pub mod Words

@@ -14,7 +14,8 @@ use lib.IntN.{ℤ, pos, negsuc}
 use lib.Signed.{leZ}
 use Rattle.semantics.specs.Expression.{loadOf, houseTable}
 use Rattle.semantics.specs.Plan.{everyBelow}
-use Rattle.semantics.proofs.Partial.{everyBelow-at, none-some}
+use Rattle.semantics.proofs.Members.{none-some}
+use Rattle.semantics.proofs.Partial.{everyBelow-at}
 
 -- ── Reading ──
 

@@ -4,7 +4,7 @@ ghost use mathlib.Core.Option.{bind};
 ghost use lib.IntN.{pos};
 ghost use lib.Signed.{ltZ, leZ};
 ghost use Rattle.semantics.specs.Expression as expression;
-ghost use Rattle.semantics.specs.Expression.{exact, operate, loadOf, houseTable};
+ghost use Rattle.semantics.specs.Expression.{bounded, operate, loadOf, houseTable};
 ghost use Rattle.semantics.specs.Order.{sameInteger};
 ghost use Rattle.semantics.specs.Enabling.{related, compared};
 ghost use Rattle.semantics.specs.ReadNet.{relationOf};
@@ -18,7 +18,7 @@ pub enum Number {
 
 // z where it is a value.
 pub fn short_of(z: i64) -> Number
-    ensures { λ r. ⌜ number r ≡ exact z ⌝ }
+    ensures { λ r. ⌜ number r ≡ bounded z ⌝ }
 {
     if z < -2147483648 {
         return Number::None;

@@ -3,7 +3,7 @@ use mathlib.Core.Path.{refl}
 use mir.Facts.{toZ-ofZ, sfits-widen}
 use borrow.Author.Needs.{needs}
 use Rattle.semantics.specs.Expression.{operate}
-use Rattle.word.proofs.Exact.{sum-fits}
+use Rattle.word.proofs.Bounded.{sum-fits}
 use Rattle.word.proofs.Read.{read-wide}
 use Rattle.word.proofs.number.add.Statement.{statement}
 use Rattle.word.proofs.number.add.Tie as tie

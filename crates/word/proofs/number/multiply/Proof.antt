@@ -3,7 +3,7 @@ use mathlib.Core.Path.{refl}
 use mir.Facts.{toZ-ofZ, sfits-widen}
 use borrow.Author.Needs.{needs}
 use Rattle.semantics.specs.Expression.{operate}
-use Rattle.word.proofs.Exact.{product-fits}
+use Rattle.word.proofs.Bounded.{product-fits}
 use Rattle.word.proofs.Read.{read-wide}
 use Rattle.word.proofs.number.multiply.Statement.{statement}
 use Rattle.word.proofs.number.multiply.Tie as tie

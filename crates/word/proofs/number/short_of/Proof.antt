@@ -1,4 +1,4 @@
--- `word::number::short_of` meets its contract: its two tests are the one of `exact`.
+-- `word::number::short_of` meets its contract: its two tests are the one of `bounded`.
 use mathlib.Core.Bool.{true}
 use mathlib.Core.Path.{_≡_, refl}
 use Prim.Native.Nat.{_^_}
@@ -6,7 +6,7 @@ use lib.Dec.{ltb}
 use lib.Signed.{mag}
 use mir.Facts.{toZ-ofZ}
 use borrow.Author.Tests.{ltb-true}
-use Rattle.word.proofs.Exact.{out-low, out-high, inside}
+use Rattle.word.proofs.Bounded.{out-low, out-high, inside}
 use Rattle.word.proofs.number.short_of.Statement.{statement}
 use Rattle.word.proofs.number.short_of.Tie as tie
 

@@ -1,4 +1,4 @@
--- The results of two i32 fit an i64, and the two tests of `short_of` are the one test of `exact`.
+-- The results of two i32 fit an i64, and the two tests of `short_of` are the one test of `bounded`.
 use mathlib.Core.Path.{_≡_}
 use mathlib.Core.Bool.{Bool, true, false, cond}
 use Prim.Native.Nat.{ℕ, zero, suc, _+_, _*_, _-_, _^_, _≤_, _<_, zero-le}
