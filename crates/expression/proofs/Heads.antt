@@ -116,10 +116,14 @@ module _ {ws : List ℕ} {variables at left : ℕ} {t u : Head} (x : IsHead ws v
       let p : suc n - 1 ≡ n = omega arith in
       rw (p, ← s, ← e, x .same)
 
--- the operand of a load and the first of two have fewer words left; m is the measure
-module _ {ws : List ℕ} {variables at left a l m : ℕ} {t : Head} (x : IsHead ws variables at left t) where
-  pub load-falls : t ≡ Load a l → left ≡ m → l < m
+module _ {ws : List ℕ} {variables at left a l : ℕ} {t : Head} (x : IsHead ws variables at left t) where
+  -- a variable is one that there is
+  pub in-range : {n : ℕ} → t ≡ Variable n a l → n < variables
+  in-range e = head-onward x e .0
+
+  -- the operand of a load and the first of two have fewer words left; m is the measure
+  pub load-falls : {m : ℕ} → t ≡ Load a l → left ≡ m → l < m
   load-falls e d = let q : Onward ws at left a l = head-onward x e in omega arith
 
-  pub first-falls : {k : ℕ} → t ≡ Binary k a l → left ≡ m → l < m
+  pub first-falls : {k m : ℕ} → t ≡ Binary k a l → left ≡ m → l < m
   first-falls e d = let q : Onward ws at left a l = head-onward x e in omega arith

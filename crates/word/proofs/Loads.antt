@@ -20,7 +20,7 @@ use Rattle.semantics.proofs.Partial.{everyBelow-at}
 -- ── Reading ──
 
 -- an entry by its number
-at-getD : (l : List ℕ) (n : ℕ) → n < length l → getElem? l n ≡ some (getD l n 0)
+pub at-getD : (l : List ℕ) (n : ℕ) → n < length l → getElem? l n ≡ some (getD l n 0)
 at-getD [] n h = absurd (not-suc-le-zero h)
 at-getD (x ∷ xs) zero h = refl
 at-getD (x ∷ xs) (suc n) h = at-getD xs n (le-of-suc-le-suc h)

@@ -1,0 +1,127 @@
+-- The rules of evaluating: the value of an expression, from its head and the outcomes of its operands. Each is one arm of the code.
+use mathlib.Core.Path.{_≡_, refl, sym, ap, _∙_}
+use mathlib.Core.List.{List}
+use mathlib.Core.Option.{Option, some, bind}
+use Prim.Native.Nat.{ℕ, _+_, _-_, _<_}
+use native.Mathlib.Omega.{arith}
+use borrow.Author.Needs.{needs}
+use lib.IntN.{ℤ}
+use lib.ListN.{length, getD}
+use Rattle.semantics.specs.Expression.{Operator, Expression, Environment, binary, load, operate, loadOf, houseTable, value}
+use Rattle.semantics.specs.Reading.{Reading, read, refused, then, Reader}
+use Rattle.semantics.specs.ReadNet.{expressionIn}
+use Rattle.word.specs.declared.number.Number.{Number}
+use Rattle.word.specs.declared.number.Number.the-variants.{Some}
+use Rattle.word.specs.Number.{number, operatorOf}
+use Rattle.word.proofs.Loads.{at-getD}
+use Rattle.expression.specs.declared.head.Head.{Head}
+use Rattle.expression.specs.declared.head.Head.the-variants.{Constant, Variable, Binary, Load, Refused}
+use Rattle.expression.specs.declared.evaluate.Outcome.{Outcome}
+use Rattle.expression.specs.declared.evaluate.Outcome.the-variants.{Gives, Nothing}
+use Rattle.expression.specs.Head.{Onward, IsHead}
+use Rattle.expression.specs.Evaluate.{valueOf, lent, Valuation, valued, unread, evaluatedFrom, outcome, OutcomeOnward, IsOutcome}
+use Rattle.expression.proofs.Heads.{onward-more, head-onward, headed, in-range, load-falls, first-falls}
+
+-- ── Values of readings ──
+
+-- "An operand without value leaves none."
+abbrev operated : Operator → Option ℤ → Option ℤ → Option ℤ
+operated o u v = bind u (λ x. bind v (λ y. operate o x y))
+
+abbrev thenValued : Valuation → (Option ℤ → ℕ → Valuation) → Valuation
+thenValued (valued v next) k = k v next
+thenValued unread k = unread
+
+module _ (env : Environment) where
+  from-load : (x : Reading Expression) → evaluatedFrom env (then x (λ a next. read (load a) next)) ≡ thenValued (evaluatedFrom env x) (λ v next. valued (bind v (loadOf houseTable)) next)
+  unfolding value
+  from-load (read a next) = refl
+  from-load (refused n p) = refl
+
+  module _ (o : Operator) where
+    from-second : (a : Expression) (x : Reading Expression) → evaluatedFrom env (then x (λ b next. read (binary o a b) next)) ≡ thenValued (evaluatedFrom env x) (λ v next. valued (operated o (value houseTable env a) v) next)
+    unfolding value
+    from-second a (read b next) = refl
+    from-second a (refused n p) = refl
+
+    from-both : (r : Reader Expression) (x : Reading Expression) → evaluatedFrom env (then x (λ a mid. then (r mid) (λ b next. read (binary o a b) next))) ≡ thenValued (evaluatedFrom env x) (λ u mid. thenValued (evaluatedFrom env (r mid)) (λ v next. valued (operated o u v) next))
+    from-both r (read a mid) = from-second a (r mid)
+    from-both r (refused n p) = refl
+
+-- a variable that there is has the value of its word
+lent-at : (bs : List ℕ) (n : ℕ) → n < length bs → lent bs n ≡ valueOf (getD bs n 0)
+unfolding bind
+lent-at bs n h = rw (at-getD bs n h)
+
+-- ── The rules ──
+
+outcome-onward : {ws bs : List ℕ} {at left : ℕ} {r s : Outcome} → IsOutcome ws bs at left r → r ≡ s → OutcomeOnward ws at left s
+outcome-onward x e = rw e at (x .onward)
+
+module _ {ws bs : List ℕ} {at left : ℕ} {t : Head} (x : IsHead ws (length bs) at left t) where
+  pub refused-head : {n p : ℕ} → t ≡ Refused n p → IsOutcome ws bs at left Nothing
+  refused-head e = record { same = λ rounds stop h s. rw (headed x e rounds stop h s); onward = tt }
+
+  pub constant-head : {y z : ℤ} {a l : ℕ} → t ≡ Constant z a l → y ≡ z → IsOutcome ws bs at left (Gives (Some y) a l)
+  unfolding value
+  constant-head e d = record { same = λ rounds stop h s. rw (headed x e rounds stop h s, d); onward = head-onward x e }
+
+  pub variable-head : {n a l : ℕ} {v : Number} → t ≡ Variable n a l → number v ≡ valueOf (getD bs n 0) → IsOutcome ws bs at left (Gives v a l)
+  unfolding value
+  variable-head {n} e d =
+      let q = head-onward x e in
+      record { same = λ rounds stop h s. rw (headed x e rounds stop h s, d, lent-at bs n (q .0)); onward = q .1 }
+
+  module _ {a l : ℕ} {r : Outcome} (e : t ≡ Load a l) (y : IsOutcome ws bs a l r) where
+    pub load-unread : r ≡ Nothing → IsOutcome ws bs at left Nothing
+    load-unread d =
+        let q : Onward ws at left a l = head-onward x e in
+        record {
+          same = λ rounds stop h s. rw (headed x e rounds stop h s, from-load (lent bs), ← y .same (rounds - 1) stop (omega arith) (omega arith), d);
+          onward = tt;
+        }
+
+    pub load-operand : {u v : Number} {b m : ℕ} → r ≡ Gives u b m → number v ≡ bind (number u) (loadOf houseTable) → IsOutcome ws bs at left (Gives v b m)
+    load-operand {b = b} {m = m} d i =
+        let q : Onward ws at left a l = head-onward x e in
+        let p : Onward ws a l b m = outcome-onward y d in
+        record {
+          same = λ rounds stop h s. rw (headed x e rounds stop h s, from-load (lent bs), ← y .same (rounds - 1) stop (omega arith) (omega arith), d, i);
+          onward = onward-more q p;
+        }
+
+  module _ {k a l : ℕ} {r : Outcome} (e : t ≡ Binary k a l) (y : IsOutcome ws bs a l r) where
+    pub first-unread : r ≡ Nothing → IsOutcome ws bs at left Nothing
+    first-unread d =
+        let q : Onward ws at left a l = head-onward x e in
+        record {
+          same = λ rounds stop h s. rw (headed x e rounds stop h s, from-both (lent bs) (operatorOf k) (expressionIn (rounds - 1) ws (length bs) stop), ← y .same (rounds - 1) stop (omega arith) (omega arith), d);
+          onward = tt;
+        }
+
+    module _ {u : Number} {b m : ℕ} (d : r ≡ Gives u b m) where
+      -- the second operand has fewer words left; n is the measure
+      pub second-falls : {n : ℕ} → left ≡ n → m < n
+      second-falls i =
+          let q : Onward ws at left a l = head-onward x e in
+          let p : Onward ws a l b m = outcome-onward y d in
+          omega arith
+
+      module _ {s : Outcome} (z : IsOutcome ws bs b m s) where
+        both : (rounds stop : ℕ) → left < rounds → at + left ≡ stop → evaluatedFrom (lent bs) (expressionIn rounds ws (length bs) stop at) ≡ thenValued (outcome s) (λ v next. valued (operated (operatorOf k) (number u) v) next)
+        both rounds stop h i =
+            let q : Onward ws at left a l = head-onward x e in
+            let p : Onward ws a l b m = outcome-onward y d in
+            rw (headed x e rounds stop h i, from-both (lent bs) (operatorOf k) (expressionIn (rounds - 1) ws (length bs) stop), ← y .same (rounds - 1) stop (omega arith) (omega arith), d, ← z .same (rounds - 1) stop (omega arith) (omega arith))
+
+        pub second-unread : s ≡ Nothing → IsOutcome ws bs at left Nothing
+        second-unread f = record { same = λ rounds stop h i. rw (both rounds stop h i, f); onward = tt }
+
+        pub operands : {v w : Number} {c n : ℕ} → s ≡ Gives v c n → number w ≡ operated (operatorOf k) (number u) (number v) → IsOutcome ws bs at left (Gives w c n)
+        operands {c = c} {n = n} f j =
+            let q : Onward ws at left a l = head-onward x e in
+            let p : Onward ws a l b m = outcome-onward y d in
+            let o : Onward ws b m c n = outcome-onward z f in
+            record { same = λ rounds stop h i. rw (both rounds stop h i, f, j); onward = onward-more (onward-more q p) o }
+
+pub ruleset evaluating = (needs, refused-head, constant-head, variable-head, in-range, load-unread, load-operand, first-unread, second-unread, operands, load-falls, first-falls, second-falls)

@@ -1,0 +1,82 @@
+use crate::head::Head;
+use crate::head::head_at;
+use word::fields::kind;
+use word::fields::payload;
+use word::fields::signed;
+use word::number::Number;
+use word::number::apply_load;
+use word::number::operate;
+ghost use mathlib.Core.Path.{_≡_};
+ghost use lib.ListN.{length};
+ghost use Rattle.semantics.specs.ReadNet.{readExpression};
+ghost use Rattle.word.specs.Number.{number};
+ghost use Rattle.expression.specs.Evaluate.{valueOf, lent, evaluated, evaluatedFrom, IsOutcome};
+
+// The value of a VALUE word; any other word has none.
+fn value_of(w: u32) -> Number
+    ensures { λ r. ⌜ number r ≡ valueOf w ⌝ }
+{
+    match kind(w) {
+        12 => {
+            if payload(w) < 16384 {
+                Number::Some(signed(w))
+            } else {
+                Number::None
+            }
+        }
+        0..=11 | 13..=15 => Number::None,
+        _ => Number::None,
+    }
+}
+
+// The value of an expression, which may be missing, the position after it and the words left; or no expression is there.
+enum Outcome {
+    Gives(Number, usize, usize),
+    Nothing,
+}
+
+// Evaluates the expression at a position, which may take `left` words.
+fn evaluate_within(words: &[u32], binding: &[u32], at: usize, left: usize) -> Outcome
+    ensures { λ r. ⌜ IsOutcome (now (words .entry)) (now (binding .entry)) at left r ⌝ }
+{
+    match head_at(words, binding.len(), at, left) {
+        Head::Constant(z, at_c, left_c) => Outcome::Gives(Number::Some(z), at_c, left_c),
+        Head::Variable(n, at_v, left_v) => Outcome::Gives(value_of(binding[n]), at_v, left_v),
+        Head::Binary(code, at_a, left_a) => match evaluate_within(words, binding, at_a, left_a) {
+            Outcome::Gives(x, at_b, left_b) => match evaluate_within(words, binding, at_b, left_b) {
+                Outcome::Gives(y, at_e, left_e) => Outcome::Gives(
+                    operate(code, x, y),
+                    at_e,
+                    left_e,
+                ),
+                Outcome::Nothing => Outcome::Nothing,
+            },
+            Outcome::Nothing => Outcome::Nothing,
+        },
+        Head::Load(at_l, left_l) => match evaluate_within(words, binding, at_l, left_l) {
+            Outcome::Gives(depth, at_f, left_f) => Outcome::Gives(apply_load(depth), at_f, left_f),
+            Outcome::Nothing => Outcome::Nothing,
+        },
+        Head::Refused(_, _) => Outcome::Nothing,
+    }
+}
+
+// The value of an expression and the position after it; no value, and that position; or no expression is there.
+pub enum Evaluated {
+    Value(i32, usize),
+    NoValue(usize),
+    Nothing,
+}
+
+// Evaluates the expression at a position. Variable n is the VALUE word n of the binding; it has no value where another word stands there.
+pub fn evaluate(words: &[u32], binding: &[u32], at: usize) -> Evaluated
+    ensures { λ r. ⌜ evaluated r ≡ evaluatedFrom (lent (now (binding .entry))) (readExpression (now (words .entry)) (length (now (binding .entry))) at) ⌝ }
+{
+    match evaluate_within(words, binding, at, 15) {
+        Outcome::Gives(x, next, _) => match x {
+            Number::Some(z) => Evaluated::Value(z, next),
+            Number::None => Evaluated::NoValue(next),
+        },
+        Outcome::Nothing => Evaluated::Nothing,
+    }
+}
