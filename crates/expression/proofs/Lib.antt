@@ -1,3 +1,5 @@
 pub mod Heads
 pub mod Passing
 pub mod Evaluating
+pub mod Spelled
+pub mod Laws

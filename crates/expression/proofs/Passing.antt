@@ -19,13 +19,16 @@ use Rattle.expression.proofs.Heads.{onward-more, head-onward, headed, l
 
 -- ── Readings without what was read ──
 
+pub forget-then : {A B : Type 0} (x : Reading A) (k : A → ℕ → Reading B) (j : ℕ → Reading (Unit {0})) → ((a : A) (mid : ℕ) → forget (k a mid) ≡ j mid) → forget (then x k) ≡ then (forget x) (λ _ mid. j mid)
+forget-then (read a mid) k j h = h a mid
+forget-then (refused n p) k j h = refl
+
 forget-map : {A B : Type 0} (f : A → B) (x : Reading A) → forget (then x (λ a. give (f a))) ≡ forget x
 forget-map f (read a next) = refl
 forget-map f (refused n p) = refl
 
 forget-both : (o : Operator) (r : Reader Expression) (x : Reading Expression) → forget (then x (λ a mid. then (r mid) (λ b next. read (binary o a b) next))) ≡ then (forget x) (λ _ mid. forget (r mid))
-forget-both o r (read a mid) = forget-map (binary o a) (r mid)
-forget-both o r (refused n p) = refl
+forget-both o r x = forget-then x (λ a mid. then (r mid) (λ b next. read (binary o a b) next)) (λ mid. forget (r mid)) (λ a mid. forget-map (binary o a) (r mid))
 
 -- ── The rules ──
 

@@ -1,4 +1,5 @@
 use crate::head::Head;
+use crate::head::MOST_EXPRESSION_WORDS;
 use crate::head::head_at;
 use word::fields::kind;
 use word::fields::payload;
@@ -72,7 +73,7 @@ pub enum Evaluated {
 pub fn evaluate(words: &[u32], binding: &[u32], at: usize) -> Evaluated
     ensures { λ r. ⌜ evaluated r ≡ evaluatedFrom (lent (now (binding .entry))) (readExpression (now (words .entry)) (length (now (binding .entry))) at) ⌝ }
 {
-    match evaluate_within(words, binding, at, 15) {
+    match evaluate_within(words, binding, at, MOST_EXPRESSION_WORDS) {
         Outcome::Gives(x, next, _) => match x {
             Number::Some(z) => Evaluated::Value(z, next),
             Number::None => Evaluated::NoValue(next),

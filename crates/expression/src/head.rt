@@ -7,6 +7,9 @@ ghost use Rattle.expression.specs.Head.{IsWord, IsHead};
 // A net has at most this many words.
 const MOST_WORDS: usize = 16384;
 
+// An expression has at most this many.
+pub const MOST_EXPRESSION_WORDS: usize = 15;
+
 // What a word is as the first of an expression, the position after it and the words left; or a refusal's number and position.
 pub enum Head {
     Constant(i32, usize, usize),

@@ -1,4 +1,5 @@
 use crate::head::Head;
+use crate::head::MOST_EXPRESSION_WORDS;
 use crate::head::head_at;
 ghost use mathlib.Core.Path.{_≡_};
 ghost use Rattle.semantics.specs.ReadNet.{readExpression};
@@ -36,7 +37,7 @@ pub enum Skipped {
 pub fn skip_expression(words: &[u32], variables: usize, at: usize) -> Skipped
     ensures { λ r. ⌜ (skipped r ≡ forget (readExpression (now (words .entry)) variables at)) × Skips (now (words .entry)) at r ⌝ }
 {
-    match pass(words, variables, at, 15) {
+    match pass(words, variables, at, MOST_EXPRESSION_WORDS) {
         Passed::To(next, _) => Skipped::Next(next),
         Passed::Refused(n, p) => Skipped::Refused(n, p),
     }
