@@ -106,7 +106,7 @@ skim-arc ws places v at =
         forget-then (readExpression ws v n) _ (λ n. forget (starts (getD (map width places) q 0) (skimExpression ws v) n))
         (λ c n. forget-gives (several (length (rangesAt places q)) (readExpression ws v) n) _ ∙ several-forgets (readExpression ws v) (skimExpression ws v) (λ at. refl) (length (rangesAt places q)) n ∙ ap (λ (k : ℕ). forget (starts k (skimExpression ws v) n)) (widths-at places q))
 
-several-length : {A : Type 0} (r : Reader A) (n at : ℕ) (xs : List A) (next : ℕ) → several n r at ≡ read xs next → length xs ≡ n
+pub several-length : {A : Type 0} (r : Reader A) (n at : ℕ) (xs : List A) (next : ℕ) → several n r at ≡ read xs next → length xs ≡ n
 unfolding several
 several-length r zero at xs next e = let h : [] ≡ xs = cc in ap length (sym h)
 several-length {A} r (suc n) at xs next e = by (r at) e (several-length r n)
@@ -127,19 +127,19 @@ changed-number {A} g r n at k k′ f = by (several n r at) refl
     by (refused i j) e = refl
     by (read xs m) e = f xs m (several-length r n at xs m e)
 
-arc-begins : (ws : List ℕ) (places : List Place) (v at : ℕ) (a : Arc) (next : ℕ) → readArc ws places v at ≡ read a next → a .position ≡ at
+pub arc-begins : (ws : List ℕ) (places : List Place) (v at : ℕ) (a : Arc) (next : ℕ) → readArc ws places v at ≡ read a next → a .position ≡ at
 unfolding readArc
 arc-begins ws places v at a next e =
     let g : Gives (λ (a : Arc) (next : ℕ). a .position ≡ at) (readArc ws places v at) = then-gives (as-read (word ws 5 (λ q. ltb q (length places)) at)) (λ q n h. then-gives (as-read (readExpression ws v n)) (λ c n h. then-gives (as-read (several (length (rangesAt places q)) (readExpression ws v) n)) (λ es n h. gives refl))) in
     given g e
 
-conjunct-begins : (ws : List ℕ) (v at : ℕ) (c : Conjunct) (next : ℕ) → readConjunct ws v at ≡ read c next → c .position ≡ at
+pub conjunct-begins : (ws : List ℕ) (v at : ℕ) (c : Conjunct) (next : ℕ) → readConjunct ws v at ≡ read c next → c .position ≡ at
 unfolding readConjunct
 conjunct-begins ws v at c next e =
     let g : Gives (λ (c : Conjunct) (next : ℕ). c .position ≡ at) (readConjunct ws v at) = then-gives (as-read (word ws 6 (λ k. only 2 k) at)) (λ k n h. then-gives (as-read (readExpression ws v n)) (λ a n h. then-gives (as-read (readExpression ws v n)) (λ b n h. gives refl))) in
     given g e
 
-element-begins : (ws : List ℕ) (at : ℕ) (d : Element) (next : ℕ) → readElement ws at ≡ read d next → d .position ≡ at
+pub element-begins : (ws : List ℕ) (at : ℕ) (d : Element) (next : ℕ) → readElement ws at ≡ read d next → d .position ≡ at
 unfolding readElement fitsKind
 element-begins ws at d next e =
     let g : Gives (λ (d : Element) (next : ℕ). d .position ≡ at) (readElement ws at) = then-gives (as-read (word ws 0xA (fitsKind 0xA) at)) (λ w n h. gives refl) in
@@ -199,7 +199,7 @@ unfolding pairOf
 widths-of [] = refl
 widths-of (p ∷ ps) = ap (λ (ns : List ℕ). width p ∷ ns) (widths-of ps)
 
-transition-begins : (ws : List ℕ) (places : List Place) (at : ℕ) (t : Transition) (next : ℕ) → readTransition ws places at ≡ read t next → t .position ≡ at
+pub transition-begins : (ws : List ℕ) (places : List Place) (at : ℕ) (t : Transition) (next : ℕ) → readTransition ws places at ≡ read t next → t .position ≡ at
 unfolding readTransition fitsKind
 transition-begins ws places at t next e =
     let g : Gives (λ (t : Transition) (next : ℕ). t .position ≡ at) (readTransition ws places at) =
