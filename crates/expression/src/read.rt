@@ -1,0 +1,43 @@
+use crate::head::Head;
+use crate::head::head_at;
+ghost use mathlib.Core.Path.{_≡_};
+ghost use Rattle.semantics.specs.ReadNet.{readExpression};
+ghost use Rattle.expression.specs.Skip.{forget, skipped, Skips, IsPassed};
+
+// The position after an expression and the words left, or a refusal's number and position.
+enum Passed {
+    To(usize, usize),
+    Refused(u32, usize),
+}
+
+// Passes over the expression at a position, which may take `left` words.
+fn pass(words: &[u32], variables: usize, at: usize, left: usize) -> Passed
+    ensures { λ r. ⌜ IsPassed (now (words .entry)) variables at left r ⌝ }
+{
+    match head_at(words, variables, at, left) {
+        Head::Constant(_, at_c, left_c) => Passed::To(at_c, left_c),
+        Head::Variable(_, at_v, left_v) => Passed::To(at_v, left_v),
+        Head::Binary(_, at_a, left_a) => match pass(words, variables, at_a, left_a) {
+            Passed::To(at_b, left_b) => pass(words, variables, at_b, left_b),
+            Passed::Refused(n, p) => Passed::Refused(n, p),
+        },
+        Head::Load(at_l, left_l) => pass(words, variables, at_l, left_l),
+        Head::Refused(m, q) => Passed::Refused(m, q),
+    }
+}
+
+// The position after an expression, or a refusal's number and position.
+pub enum Skipped {
+    Next(usize),
+    Refused(u32, usize),
+}
+
+// Passes over the expression at a position, its variables being below `variables`.
+pub fn skip_expression(words: &[u32], variables: usize, at: usize) -> Skipped
+    ensures { λ r. ⌜ (skipped r ≡ forget (readExpression (now (words .entry)) variables at)) × Skips (now (words .entry)) at r ⌝ }
+{
+    match pass(words, variables, at, 15) {
+        Passed::To(next, _) => Skipped::Next(next),
+        Passed::Refused(n, p) => Skipped::Refused(n, p),
+    }
+}
