@@ -1,2 +1,4 @@
-pub mod Skim
+pub mod Skimming
 pub mod Located
+pub mod Loops
+pub mod Structures

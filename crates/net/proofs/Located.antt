@@ -11,7 +11,7 @@ use Rattle.semantics.specs.Net.{Place, Arc, Conjunct, Element, Transition, Net}
 use Rattle.semantics.specs.ReadNet.{readRange, readPlace, readArc, readConjunct, readElement, readTransition, readNet}
 use Rattle.semantics.proofs.Readers.{Gives, gives, refusal, given, then-gives, as-read, weaken}
 use Rattle.net.specs.Skim.{fitsKind}
-use Rattle.net.proofs.Skim.{several-length, arc-begins, conjunct-begins, element-begins, transition-begins}
+use Rattle.net.proofs.Skimming.{several-length, arc-begins, conjunct-begins, element-begins, transition-begins}
 
 -- a structure stands at its position
 pub record At {A : Type 0} (r : Reader A) (position : A → ℕ) (x : A) : Type 0 where

@@ -6,14 +6,11 @@ use mathlib.Core.List.{List, [], _∷_, map}
 use lib.Dec.{leb, ltb, eqb}
 use lib.Signed.{leZ}
 use lib.ListN.{length, getD}
+use Rattle.expression.specs.Skip.{forget}
 use Rattle.semantics.specs.Word.{bits, only, between, signed}
 use Rattle.semantics.specs.Reading.{Reading, read, refused, then, Reader, _>>=_, give, word}
 use Rattle.semantics.specs.Net.{Place, Arc, Conjunct, Element, Transition, Net}
 use Rattle.semantics.specs.ReadNet.{readExpression, netWord, transitionWord}
-
-abbrev pub forget : {A : Type 0} → Reading A → Reading (Unit {0})
-forget (read a next) = read tt next
-forget (refused n p) = refused n p
 
 -- what was read, changed
 abbrev pub changed : {A B : Type 0} → (A → B) → Reading A → Reading B
@@ -110,9 +107,13 @@ pub record NetOutline : Type 0 where
 abbrev pub netOutline : Net → NetOutline
 netOutline net = record { places = map (λ (q : Place). (q .position, width q)) (net .places); transitions = map (λ (t : Transition). t .position) (net .transitions) }
 
+-- a transition of a net whose places have these widths
+abbrev pub skimTransitions : List ℕ → List ℕ → Reader (Unit {0})
+skimTransitions ws widths at = forget (skimTransition ws widths at)
+
 unfoldable pub skimNet : List ℕ → Reader NetOutline
 skimNet ws = do
   w ← word ws 1 (fitsKind 1)
   ps ← skimPlaces (bits 8 15 w) ws
-  ts ← starts (bits 0 7 w) (λ at. forget (skimTransition ws (map (λ (p : ℕ × ℕ). p .1) ps) at))
+  ts ← starts (bits 0 7 w) (skimTransitions ws (map (λ (p : ℕ × ℕ). p .1) ps))
   give (record { places = ps; transitions = ts })

@@ -2,3 +2,7 @@
 
 // One word of a structure.
 pub mod take;
+// Structures passed over, with the positions at which they begin.
+pub mod skim;
+// Where the structures of a net and of a transition begin.
+pub mod index;

@@ -11,7 +11,8 @@ use Rattle.semantics.specs.Net.{Place, Arc, Conjunct, Element, Transition, Net,
 use Rattle.semantics.specs.ReadNet.{readExpression, readRange, readPlace, readArc, readConjunct, readElement, readTransition, readNet}
 use Rattle.semantics.proofs.Tests.{false-true}
 use Rattle.semantics.proofs.Readers.{Gives, gives, given, then-gives, as-read}
-use Rattle.net.specs.Skim.{forget, changed, fitsKind, starts, skimExpression, skimArc, skimConjunct, skimOne, Outline, outline, skimTransition, width, skimPlace, skimPlaces, NetOutline, netOutline, skimNet}
+use Rattle.expression.specs.Skip.{forget}
+use Rattle.net.specs.Skim.{changed, fitsKind, starts, skimExpression, skimArc, skimConjunct, skimOne, Outline, outline, skimTransition, width, skimPlace, skimPlaces, NetOutline, netOutline, skimNet}
 
 -- ── Steps ──
 
@@ -26,7 +27,7 @@ forget-after (read a next) k = refl
 forget-after (refused n p) k = refl
 
 -- what was read is only put together
-forget-gives : {A B : Type 0} (r : Reading A) (f : A → B) → forget (then r (λ a n. read (f a) n)) ≡ forget r
+pub forget-gives : {A B : Type 0} (r : Reading A) (f : A → B) → forget (then r (λ a n. read (f a) n)) ≡ forget r
 forget-gives (read a next) f = refl
 forget-gives (refused n p) f = refl
 
