@@ -2,3 +2,5 @@ pub mod Skimming
 pub mod Located
 pub mod Loops
 pub mod Structures
+pub mod Transitions
+pub mod Nets

@@ -33,7 +33,7 @@ forget-changed : {A B : Type 0} (f : A → B) (x : Reading A) → forget (change
 forget-changed f (read a next) = refl
 forget-changed f (refused n p) = refl
 
-changed-changed : {A B C : Type 0} (f : A → B) (g : B → C) (x : Reading A) → changed g (changed f x) ≡ changed (λ a. g (f a)) x
+pub changed-changed : {A B C : Type 0} (f : A → B) (g : B → C) (x : Reading A) → changed g (changed f x) ≡ changed (λ a. g (f a)) x
 changed-changed f g (read a next) = refl
 changed-changed f g (refused n p) = refl
 

@@ -90,7 +90,7 @@ skim-conjunct ws widths v at =
     forget-after (word ws 6 (fitsKind 6) at) _
     ∙ ap (then (word ws 6 (fitsKind 6) at)) (fun-ext (λ k. fun-ext (λ n. forget-then (readExpression ws v n) _ (λ n. forget (readExpression ws v n)) (λ a n. forget-gives (readExpression ws v n) _))))
 
-widths-at : (places : List Place) (q : ℕ) → length (rangesAt places q) ≡ getD (map width places) q 0
+pub widths-at : (places : List Place) (q : ℕ) → length (rangesAt places q) ≡ getD (map width places) q 0
 widths-at [] q = refl
 widths-at (p ∷ ps) zero = refl
 widths-at (p ∷ ps) (suc q) = widths-at ps q

@@ -36,10 +36,10 @@ stricter ws k weak ok all at = by (wordAt ws at)
     by (refused n q) = refl
 
 module _ {ws : List ℕ} {at k : ℕ} {t : Taken} (w : IsTaken ws at k t) where
-  word-refused : {m s : ℕ} → t ≡ TakeRefused m s → word ws k (fitsKind k) at ≡ refused m s
+  pub word-refused : {m s : ℕ} → t ≡ TakeRefused m s → word ws k (fitsKind k) at ≡ refused m s
   word-refused e = sym (w .same) ∙ ap (taken at) e
 
-  word-taken : {p : ℕ} → t ≡ Word p → word ws k (fitsKind k) at ≡ read p (at + 1)
+  pub word-taken : {p : ℕ} → t ≡ Word p → word ws k (fitsKind k) at ≡ read p (at + 1)
   word-taken e = sym (w .same) ∙ ap (taken at) e
 
   -- the next position is a number of the machine

@@ -38,6 +38,11 @@ pub record IsTaken (ws : List ℕ) (at k : ℕ) (r : Taken) : Type 0 where
   pub same : taken at r ≡ word ws k (fitsKind k) at
   pub exists : Takes ws at k r
 
+-- a refused word's refusal; a word that was taken has none
+abbrev pub refusalOf : Taken → Skipped
+refusalOf (Word p) = Next 0
+refusalOf (TakeRefused n q) = Refused n q
+
 -- ── Structures ──
 
 -- what was read up to an end, or its refusal

@@ -6,7 +6,7 @@ use expression::Skipped;
 ghost use mathlib.Core.Path.{_≡_};
 ghost use Prim.Native.Nat.{_≤_};
 ghost use Rattle.net.specs.Skim.{starts, skimPlace, skimPlaces, skimTransition, skimTransitions, skimNet};
-ghost use Rattle.net.specs.Index.{transitionRead, placeRead, placesRead, startsRead, netRead};
+ghost use Rattle.net.specs.Index.{refusalOf, transitionRead, placeRead, placesRead, startsRead, netRead};
 
 // A transition: where it ends or why it cannot be read, how many of each part it has, and where they begin. Its ranges begin right after
 // its word.
@@ -96,7 +96,9 @@ pub fn read_transition(words: &[u32], widths: &[usize], at: usize) -> Transition
 }
 
 // A refused word's refusal.
-fn refusal_of(t: Taken) -> Skipped {
+fn refusal_of(t: Taken) -> Skipped
+    ensures { λ r. ⌜ r ≡ refusalOf t ⌝ }
+{
     match t {
         Taken::Word(_) => Skipped::Next(0),
         Taken::Refused(n, p) => Skipped::Refused(n, p),

@@ -1,4 +1,5 @@
 use borrow.Author.Needs.{needs}
+use Rattle.net.proofs.Transitions.{transitions, few-elements, outputs-refused, guard-refused, plan-ends}
 use Rattle.net.proofs.index.read_transition.Statement.{statement}
 use Rattle.net.proofs.index.read_transition.Tie as tie
 use Rattle.net.proofs.index.read_transition.Reads as reads
@@ -30,7 +31,7 @@ ending-requires c κs = search needs
 
 -- src/index.rt:51:9
 returns : tie.Need-returns
-returns c = ?
+returns c = search transitions
 
 -- src/index.rt:53:21
 cast-variables : tie.Need-cast-variables
@@ -54,11 +55,11 @@ cast-elements c = search needs
 
 -- src/index.rt:58:71
 add-skip-several : tie.Need-add-skip-several
-add-skip-several c = ?
+add-skip-several c = search transitions
 
 -- src/index.rt:58:9
 skip-several-requires : tie.Need-skip-several-requires
-skip-several-requires c κs = ?
+skip-several-requires c κs = search transitions
 
 -- src/index.rt:60:23
 enum-known-ranges-end : tie.Need-enum-known-ranges-end
@@ -74,11 +75,11 @@ ending-requires-2 c κs = search needs
 
 -- src/index.rt:61:9
 returns-2 : tie.Need-returns-2
-returns-2 c = ?
+returns-2 c = search transitions
 
 -- src/index.rt:63:9
 skip-several-requires-2 : tie.Need-skip-several-requires-2
-skip-several-requires-2 c κs = ?
+skip-several-requires-2 c κs = search transitions
 
 -- src/index.rt:65:23
 enum-known-ins-end : tie.Need-enum-known-ins-end
@@ -94,11 +95,11 @@ ending-requires-3 c κs = search needs
 
 -- src/index.rt:66:9
 returns-3 : tie.Need-returns-3
-returns-3 c = ?
+returns-3 c = search transitions
 
 -- src/index.rt:68:9
 skip-several-requires-3 : tie.Need-skip-several-requires-3
-skip-several-requires-3 c κs = ?
+skip-several-requires-3 c κs = search transitions
 
 -- src/index.rt:70:23
 enum-known-outs-end : tie.Need-enum-known-outs-end
@@ -114,11 +115,16 @@ ending-requires-4 c κs = search needs
 
 -- src/index.rt:71:9
 returns-4 : tie.Need-returns-4
-returns-4 c = ?
+returns-4 c =
+    let s3 = c .before .before .before in
+    let s2 = s3 .before .before .before .before in
+    let s1 = s2 .before .before .before .before in
+    let tk = s1 .before .before .before .before in
+    outputs-refused _ _ _ (tk .take .ensures) (s1 .before .before .head .given .1) _ (s1 .skip-several .ensures) (s2 .before .before .ranges-end .given .1) _ (s2 .skip-several2 .ensures) (s3 .before .before .ins-end .given .1) _ (s3 .skip-several3 .ensures) _ (c .before .enum-told4 .given .1) (c .ending4 .ensures)
 
 -- src/index.rt:73:9
 skip-several-requires-4 : tie.Need-skip-several-requires-4
-skip-several-requires-4 c κs = ?
+skip-several-requires-4 c κs = search transitions
 
 -- src/index.rt:75:23
 enum-known-guard-end : tie.Need-enum-known-guard-end
@@ -134,15 +140,34 @@ ending-requires-5 c κs = search needs
 
 -- src/index.rt:76:9
 returns-5 : tie.Need-returns-5
-returns-5 c = ?
+returns-5 c =
+    let s4 = c .before .before .before in
+    let s3 = s4 .before .before .before .before in
+    let s2 = s3 .before .before .before .before in
+    let s1 = s2 .before .before .before .before in
+    let tk = s1 .before .before .before .before in
+    guard-refused _ _ _ (tk .take .ensures) (s1 .before .before .head .given .1) _ (s1 .skip-several .ensures) (s2 .before .before .ranges-end .given .1) _ (s2 .skip-several2 .ensures) (s3 .before .before .ins-end .given .1) _ (s3 .skip-several3 .ensures) (s4 .before .before .outs-end .given .1) _ (s4 .skip-several4 .ensures) _ (c .before .enum-told5 .given .1) (c .ending5 .ensures)
 
 -- src/index.rt:78:9
 skip-several-requires-5 : tie.Need-skip-several-requires-5
-skip-several-requires-5 c κs = ?
+skip-several-requires-5 c κs =
+    let s4 = c .before .before .before in
+    let s3 = s4 .before .before .before .before in
+    let s2 = s3 .before .before .before .before in
+    let s1 = s2 .before .before .before .before in
+    let tk = s1 .before .before .before .before in
+    few-elements (tk .take .ensures) (s1 .before .before .head .given .1)
 
 -- src/index.rt:46:1
 returns-6 : tie.Need-returns-6
-returns-6 c = ?
+returns-6 c =
+    let s5 = c .before .before .before .before in
+    let s4 = s5 .before .before .before .before in
+    let s3 = s4 .before .before .before .before in
+    let s2 = s3 .before .before .before .before in
+    let s1 = s2 .before .before .before .before in
+    let tk = s1 .before .before .before .before in
+    plan-ends _ _ _ (tk .take .ensures) (s1 .before .before .head .given .1) _ (s1 .skip-several .ensures) (s2 .before .before .ranges-end .given .1) _ (s2 .skip-several2 .ensures) (s3 .before .before .ins-end .given .1) _ (s3 .skip-several3 .ensures) (s4 .before .before .outs-end .given .1) _ (s4 .skip-several4 .ensures) (s5 .before .before .guard-end .given .1) (s5 .skip-several5 .result .end) _ (s5 .skip-several5 .ensures)
 
 pub read-transition-spec : {M : Type 1} → statement M
 read-transition-spec =
