@@ -68,47 +68,70 @@ module _ {R : Reader (Unit {0})} {n at i next : ℕ} (a : Ahead R n at i next) w
       let d : n - i ≡ 0 = omega arith in
       sym (ap (λ (k : ℕ). forget (starts k R next)) d) ∙ a .same
 
--- ── The positions are kept too ──
+-- ── What was read is kept too ──
 
-pub record Collected (R : Reader (Unit {0})) (n at i next : ℕ) (begins : List ℕ) : Type 0 where
+-- `F k` reads k structures; `xs` is what the i first of them gave
+pub record Gathered {B : Type 0} (F : ℕ → Reader (List B)) (n at i next : ℕ) (xs : List B) : Type 0 where
   pub inside : i ≤ n
-  pub same : changed (λ ps. take i begins ++ ps) (starts (n - i) R next) ≡ starts n R at
+  pub same : changed (λ ps. xs ++ ps) (F (n - i) next) ≡ F n at
 
-pub collected-start : (R : Reader (Unit {0})) (n at : ℕ) (begins : List ℕ) → Collected R n at 0 at begins
-collected-start R n at begins =
+pub gathered-start : {B : Type 0} (F : ℕ → Reader (List B)) (n at : ℕ) → Gathered F n at 0 at []
+gathered-start {B} F n at =
     let e : n - 0 ≡ n = omega arith in
-    record { inside = omega arith; same = ap (λ (k : ℕ). changed (λ ps. ps) (starts k R at)) e ∙ by (starts n R at) }
+    record { inside = omega arith; same = ap (λ (k : ℕ). changed (λ ps. ps) (F k at)) e ∙ by (F n at) }
   where
-    by : (x : Reading (List ℕ)) → changed (λ ps. ps) x ≡ x
+    by : (x : Reading (List B)) → changed (λ ps. ps) x ≡ x
     by (read ps end) = refl
     by (refused k p) = refl
 
-module _ {R : Reader (Unit {0})} {n at i next : ℕ} {begins : List ℕ} (a : Collected R n at i next begins) where
-  pub collected-turn : (p : ℕ) → i < n → n ≤ length begins → R next ≡ read tt p → Collected R n at (i + 1) p (set begins i next)
-  collected-turn p h l e =
+module _ {B : Type 0} {F : ℕ → Reader (List B)} {n at i next : ℕ} {xs : List B} (a : Gathered F n at i next xs) where
+  pub gathered-turn : (p : ℕ) (b : B) → i < n → ((k : ℕ) → F (suc k) next ≡ changed (λ ps. b ∷ ps) (F k p)) → Gathered F n at (i + 1) p (xs ++ (b ∷ []))
+  gathered-turn p b h e =
       let d : n - i ≡ suc (n - (i + 1)) = omega arith in
-      let s : take (i + 1) (set begins i next) ≡ take i begins ++ (next ∷ []) = ap (λ (k : ℕ). take k (set begins i next)) (add-one i) ∙ take-suc-set begins i next (omega arith) in
       record {
         inside = omega arith;
         same =
-          ap (λ (f : List ℕ → List ℕ). changed f (starts (n - (i + 1)) R p)) (fun-ext (λ ps. ap (λ (qs : List ℕ). qs ++ ps) s ∙ append-assoc (take i begins) (next ∷ []) ps))
-          ∙ sym (changed-changed (λ ps. next ∷ ps) (λ ps. take i begins ++ ps) (starts (n - (i + 1)) R p))
-          ∙ sym (ap (λ (k : ℕ). changed (λ ps. take i begins ++ ps) (starts k R next)) d ∙ ap (changed (λ ps. take i begins ++ ps)) (starts-read R (n - (i + 1)) next p e))
+          ap (λ (f : List B → List B). changed f (F (n - (i + 1)) p)) (fun-ext (λ ps. append-assoc xs (b ∷ []) ps))
+          ∙ sym (changed-changed (λ ps. b ∷ ps) (λ ps. xs ++ ps) (F (n - (i + 1)) p))
+          ∙ sym (ap (λ (k : ℕ). changed (λ ps. xs ++ ps) (F k next)) d ∙ ap (changed (λ ps. xs ++ ps)) (e (n - (i + 1))))
           ∙ a .same
       }
 
-  pub collected-refused : (m q : ℕ) → i < n → R next ≡ refused m q → refused m q ≡ starts n R at
-  collected-refused m q h e =
+  pub gathered-refused : (m q : ℕ) → i < n → ((k : ℕ) → F (suc k) next ≡ refused m q) → refused m q ≡ F n at
+  gathered-refused m q h e =
       let d : n - i ≡ suc (n - (i + 1)) = omega arith in
-      sym (ap (λ (k : ℕ). changed (λ ps. take i begins ++ ps) (starts k R next)) d ∙ ap (changed (λ ps. take i begins ++ ps)) (starts-refused R (n - (i + 1)) next m q e)) ∙ a .same
+      sym (ap (λ (k : ℕ). changed (λ ps. xs ++ ps) (F k next)) d ∙ ap (changed (λ ps. xs ++ ps)) (e (n - (i + 1)))) ∙ a .same
+
+  pub gathered-end : n ≤ i → F 0 next ≡ read [] next → read xs next ≡ F n at
+  gathered-end h e =
+      let d : n - i ≡ 0 = omega arith in
+      sym (ap (λ (k : ℕ). changed (λ ps. xs ++ ps) (F k next)) d ∙ ap (changed (λ ps. xs ++ ps)) e ∙ ap (λ (ps : List B). read ps next) (append-nil xs)) ∙ a .same
+
+-- ── The positions are kept ──
+
+pub record Collected (R : Reader (Unit {0})) (n at i next : ℕ) (begins : List ℕ) : Type 0 where
+  pub gathered : Gathered (λ k. starts k R) n at i next (take i begins)
+
+pub collected-start : (R : Reader (Unit {0})) (n at : ℕ) (begins : List ℕ) → Collected R n at 0 at begins
+collected-start R n at begins = record { gathered = gathered-start (λ k. starts k R) n at }
+
+-- one more is written
+pub take-set : (l : List ℕ) (i a : ℕ) → i < length l → take (i + 1) (set l i a) ≡ take i l ++ (a ∷ [])
+take-set l i a h = ap (λ (k : ℕ). take k (set l i a)) (add-one i) ∙ take-suc-set l i a h
+
+module _ {R : Reader (Unit {0})} {n at i next : ℕ} {begins : List ℕ} (a : Collected R n at i next begins) where
+  pub collected-turn : (p : ℕ) → i < n → n ≤ length begins → R next ≡ read tt p → Collected R n at (i + 1) p (set begins i next)
+  collected-turn p h l e = record { gathered = rw (take-set begins i next (omega arith)) (gathered-turn (a .gathered) p next h (λ k. starts-read R k next p e)) }
+
+  pub collected-refused : (m q : ℕ) → i < n → R next ≡ refused m q → refused m q ≡ starts n R at
+  collected-refused m q h e = gathered-refused (a .gathered) m q h (λ k. starts-refused R k next m q e)
 
   pub collected-end : n ≤ i → read (take n begins) next ≡ starts n R at
   unfolding starts
   collected-end h =
-      let d : n - i ≡ 0 = omega arith in
-      let k = a .inside in
-      let j : i ≡ n = omega arith in
-      sym (ap (λ (k : ℕ). changed (λ ps. take i begins ++ ps) (starts k R next)) d ∙ ap (λ (ps : List ℕ). read ps next) (append-nil (take i begins)) ∙ ap (λ (k : ℕ). read (take k begins) next) j) ∙ a .same
+      let g = a .gathered .inside in
+      let j : n ≡ i = omega arith in
+      ap (λ (k : ℕ). read (take k begins) next) j ∙ gathered-end (a .gathered) h refl
 
 -- ── By the answers of the code ──
 

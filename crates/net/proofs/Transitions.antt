@@ -30,7 +30,7 @@ module _ {A B : Type 0} {end : Skipped} (a : A) (k : A → ℕ → Reading B) wh
   then-stops : {x : Reading A} {m q : ℕ} → upTo end a ≡ x → end ≡ Refused m q → then x k ≡ refused m q
   then-stops s d = rw (← s, d)
 
-then-gives : {A B : Type 0} (end : Skipped) (a : A) (f : A → B) {x : Reading A} → upTo end a ≡ x → upTo end (f a) ≡ then x (λ a n. read (f a) n)
+pub then-gives : {A B : Type 0} (end : Skipped) (a : A) (f : A → B) {x : Reading A} → upTo end a ≡ x → upTo end (f a) ≡ then x (λ a n. read (f a) n)
 then-gives {A} {B} end a f e = by end ∙ ap (λ (x : Reading A). then x (λ a n. read (f a) n)) e
   where
     by : (end : Skipped) → upTo end (f a) ≡ then (upTo end a) (λ a n. read (f a) n)
@@ -88,7 +88,7 @@ module _ {ws : List ℕ} {at : ℕ} {t : Taken} (w : IsTaken ws at 4 t) {p : ℕ
 -- ── Each return ──
 
 -- an answer that has only its end
-upTo-refused : {A : Type 0} {x : Reading A} {end : Skipped} (a : A) {m q : ℕ} → x ≡ refused m q → end ≡ Refused m q → upTo end a ≡ x
+pub upTo-refused : {A : Type 0} {x : Reading A} {end : Skipped} (a : A) {m q : ℕ} → x ≡ refused m q → end ≡ Refused m q → upTo end a ≡ x
 upTo-refused a e d = rw (e, d)
 
 module _ (ws widths : List ℕ) (at : ℕ) {t : Taken} (w : IsTaken ws at 4 t) where

@@ -1,4 +1,5 @@
 use borrow.Author.Needs.{needs}
+use Rattle.net.proofs.Nets.{netting}
 use Rattle.net.proofs.index.read_place.Statement.{statement}
 use Rattle.net.proofs.index.read_place.Tie as tie
 use Rattle.net.proofs.index.read_place.Reads as reads
@@ -28,11 +29,11 @@ slice-aggregate-skip-several c = search needs
 
 -- src/index.rt:120:67
 add-skip-several : tie.Need-add-skip-several
-add-skip-several c = ?
+add-skip-several c = search netting
 
 -- src/index.rt:120:17
 skip-several-requires : tie.Need-skip-several-requires
-skip-several-requires c κs = ?
+skip-several-requires c κs = search netting
 
 -- src/index.rt:124:24
 enum-known-m : tie.Need-enum-known-m
@@ -40,11 +41,11 @@ enum-known-m c = search needs
 
 -- src/index.rt:113:1
 returns : tie.Need-returns
-returns c = ?
+returns c = search netting
 
 -- src/index.rt:113:1
 returns-2 : tie.Need-returns-2
-returns-2 c = ?
+returns-2 c = search netting
 
 pub read-place-spec : {M : Type 1} → statement M
 read-place-spec =
