@@ -1,7 +1,7 @@
 -- Loops that read n structures one after the other: what is still ahead is what was ahead at first. One law for the start, a turn, a
 -- refusal and the end, over any reader of one structure.
 use mathlib.Core.Path.{_≡_, refl, sym, ap, _∙_, fun-ext}
-use Prim.Native.Nat.{ℕ, zero, suc, _+_, _-_, _≤_, _<_}
+use Prim.Native.Nat.{ℕ, suc, _+_, _-_, _≤_, _<_}
 use mathlib.Core.List.{List, [], _∷_, _++_, append-assoc, append-nil}
 use native.Mathlib.Numerals.{add-one}
 use native.Mathlib.Omega.{arith}
@@ -13,7 +13,6 @@ use Rattle.expression.specs.declared.read.Skipped.{Skipped}
 use Rattle.expression.specs.declared.read.Skipped.the-variants.{Next, Refused}
 use Rattle.expression.specs.Skip.{forget, skipped}
 use Rattle.net.specs.Skim.{changed, starts}
-use Rattle.net.proofs.Skimming.{forget-gives}
 
 module _ (R : Reader (Unit {0})) where
   -- one structure and the rest
@@ -54,7 +53,7 @@ module _ {R : Reader (Unit {0})} {n at i next : ℕ} (a : Ahead R n at i next) w
       let d : n - i ≡ suc (n - (i + 1)) = omega arith in
       record {
         inside = omega arith;
-        same = sym (ap (λ (k : ℕ). forget (starts k R next)) d ∙ ap forget (starts-read R (n - (i + 1)) next p e) ∙ forget-changed (λ ps. next ∷ ps) (starts (n - (i + 1)) R p)) ∙ a .same
+        same = sym (ap (λ (k : ℕ). forget (starts k R next)) d ∙ ap forget (starts-read R (n - (i + 1)) next p e) ∙ forget-changed (λ ps. next ∷ ps) (starts (n - (i + 1)) R p)) ∙ a .same;
       }
 
   pub ahead-refused : (m q : ℕ) → i < n → R next ≡ refused m q → refused m q ≡ forget (starts n R at)
@@ -91,10 +90,10 @@ module _ {B : Type 0} {F : ℕ → Reader (List B)} {n at i next : ℕ} {xs : Li
       record {
         inside = omega arith;
         same =
-          ap (λ (f : List B → List B). changed f (F (n - (i + 1)) p)) (fun-ext (λ ps. append-assoc xs (b ∷ []) ps))
-          ∙ sym (changed-changed (λ ps. b ∷ ps) (λ ps. xs ++ ps) (F (n - (i + 1)) p))
-          ∙ sym (ap (λ (k : ℕ). changed (λ ps. xs ++ ps) (F k next)) d ∙ ap (changed (λ ps. xs ++ ps)) (e (n - (i + 1))))
-          ∙ a .same
+            ap (λ (f : List B → List B). changed f (F (n - (i + 1)) p)) (fun-ext (λ ps. append-assoc xs (b ∷ []) ps))
+            ∙ sym (changed-changed (λ ps. b ∷ ps) (λ ps. xs ++ ps) (F (n - (i + 1)) p))
+            ∙ sym (ap (λ (k : ℕ). changed (λ ps. xs ++ ps) (F k next)) d ∙ ap (changed (λ ps. xs ++ ps)) (e (n - (i + 1))))
+            ∙ a .same;
       }
 
   pub gathered-refused : (m q : ℕ) → i < n → ((k : ℕ) → F (suc k) next ≡ refused m q) → refused m q ≡ F n at

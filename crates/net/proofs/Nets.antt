@@ -1,7 +1,7 @@
 -- The rules of reading places and a net: a place's word and its ranges; places one after the other, of which the positions and the
 -- widths are kept; the net's word, its places and its transitions.
 use mathlib.Core.Path.{_≡_, refl, sym, ap, _∙_, subst}
-use Prim.Native.Nat.{ℕ, zero, suc, _+_, _-_, _/_, _%_, _≤_, _<_}
+use Prim.Native.Nat.{ℕ, suc, _+_, _/_, _%_, _≤_, _<_}
 use mathlib.Core.Bool.{Bool, true, false, _&&_}
 use mathlib.Core.List.{List, [], _∷_, _++_, map, zip, zipWith}
 use borrow.Author.Needs.{needs}
@@ -10,8 +10,8 @@ use native.Mathlib.Omega.{arith}
 use lib.Dec.{leb}
 use lib.ListN.{length, take, set}
 use lib.Seq.{length-take-le}
-use Rattle.semantics.specs.Word.{only, between}
-use Rattle.semantics.specs.Reading.{Reading, read, refused, then, Reader}
+use Rattle.semantics.specs.Word.{only}
+use Rattle.semantics.specs.Reading.{Reading, read, refused, then}
 use Rattle.semantics.proofs.Tests.{false-true, and-right}
 use Rattle.expression.specs.declared.read.Skipped.{Skipped}
 use Rattle.expression.specs.declared.read.Skipped.the-variants.{Next, Refused}
@@ -92,8 +92,8 @@ module _ {ws : List ℕ} {n at i next : ℕ} {begins widths : List ℕ} (a : Pla
         let e : skimPlace ws next ≡ read width p = rw (← s, d) in
         record {
           gathered =
-            rw (take-set begins i next (omega arith), take-set widths i width (omega arith), zip-snoc (take i begins) (take i widths) next width (taken-alike begins widths i (omega arith) (omega arith)))
-            (gathered-turn (a .gathered) p (next, width) h (λ k. places-read ws k next width p e))
+              rw (take-set begins i next (omega arith), take-set widths i width (omega arith), zip-snoc (take i begins) (take i widths) next width (taken-alike begins widths i (omega arith) (omega arith)))
+              (gathered-turn (a .gathered) p (next, width) h (λ k. places-read ws k next width p e));
         }
 
     pub placed-stops : {m q : ℕ} → end ≡ Refused m q → refused m q ≡ skimPlaces n ws at

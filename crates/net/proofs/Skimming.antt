@@ -159,12 +159,12 @@ unfolding readTransition skimTransition fitsKind
 skim-transition ws places at =
     changed-after outline (word ws 4 (fitsKind 4) at) _
     ∙ ap (then (word ws 4 (fitsKind 4) at)) (fun-ext (λ w. fun-ext (λ n.
-        several-count outline (readRange ws) (skimOne ws (map width places) (bits 0 3 w) 3) (skim-range ws (map width places) (bits 0 3 w)) (bits 0 3 w) n _ _ (λ vs n l.
-        several-then outline (readArc ws places (bits 0 3 w)) (λ (a : Arc). a .position) (skimOne ws (map width places) (bits 0 3 w) 5) (skim-arc ws places (bits 0 3 w)) (arc-begins ws places (bits 0 3 w)) (bits 4 7 w) n _ _ (λ is n.
-        several-then outline (readArc ws places (bits 0 3 w)) (λ (a : Arc). a .position) (skimOne ws (map width places) (bits 0 3 w) 5) (skim-arc ws places (bits 0 3 w)) (arc-begins ws places (bits 0 3 w)) (bits 8 11 w) n _ _ (λ os n.
-        several-then outline (readConjunct ws (bits 0 3 w)) (λ (c : Conjunct). c .position) (skimOne ws (map width places) (bits 0 3 w) 6) (skim-conjunct ws (map width places) (bits 0 3 w)) (conjunct-begins ws (bits 0 3 w)) (bits 12 15 w) n _ _ (λ gs n.
-        several-then outline (readElement ws) (λ (d : Element). d .position) (skimOne ws (map width places) (bits 0 3 w) 0xA) (skim-element ws (map width places) (bits 0 3 w)) (element-begins ws) (bits 16 19 w) n _ _ (λ es n.
-        ap (λ (k : ℕ). read (record { variables = k; inputs = map (λ (a : Arc). a .position) is; outputs = map (λ (a : Arc). a .position) os; guard = map (λ (c : Conjunct). c .position) gs; plan = map (λ (d : Element). d .position) es }) n) l))))))))
+    several-count outline (readRange ws) (skimOne ws (map width places) (bits 0 3 w) 3) (skim-range ws (map width places) (bits 0 3 w)) (bits 0 3 w) n _ _ (λ vs n l.
+    several-then outline (readArc ws places (bits 0 3 w)) (λ (a : Arc). a .position) (skimOne ws (map width places) (bits 0 3 w) 5) (skim-arc ws places (bits 0 3 w)) (arc-begins ws places (bits 0 3 w)) (bits 4 7 w) n _ _ (λ is n.
+    several-then outline (readArc ws places (bits 0 3 w)) (λ (a : Arc). a .position) (skimOne ws (map width places) (bits 0 3 w) 5) (skim-arc ws places (bits 0 3 w)) (arc-begins ws places (bits 0 3 w)) (bits 8 11 w) n _ _ (λ os n.
+    several-then outline (readConjunct ws (bits 0 3 w)) (λ (c : Conjunct). c .position) (skimOne ws (map width places) (bits 0 3 w) 6) (skim-conjunct ws (map width places) (bits 0 3 w)) (conjunct-begins ws (bits 0 3 w)) (bits 12 15 w) n _ _ (λ gs n.
+    several-then outline (readElement ws) (λ (d : Element). d .position) (skimOne ws (map width places) (bits 0 3 w) 0xA) (skim-element ws (map width places) (bits 0 3 w)) (element-begins ws) (bits 16 19 w) n _ _ (λ es n.
+    ap (λ (k : ℕ). read (record { variables = k; inputs = map (λ (a : Arc). a .position) is; outputs = map (λ (a : Arc). a .position) os; guard = map (λ (c : Conjunct). c .position) gs; plan = map (λ (d : Element). d .position) es }) n) l))))))))
 
 -- ── Places, and the net ──
 
@@ -176,8 +176,8 @@ unfolding readPlace skimPlace fitsKind pairOf
 skim-place ws at =
     changed-after pairOf (word ws 2 (fitsKind 2) at) _
     ∙ ap (then (word ws 2 (fitsKind 2) at)) (fun-ext (λ n. fun-ext (λ m.
-        several-count pairOf (readRange ws) (skimOne ws [] 0 3) (skim-range ws [] 0) n m _ (λ m. read (at, n) m) (λ rs m l. ap (λ (k : ℕ). read (at, k) m) l)
-        ∙ sym (changed-after (λ (k : ℕ). (at, k)) (forget (starts n (skimOne ws [] 0 3) m)) (λ u m. read n m)))))
+    several-count pairOf (readRange ws) (skimOne ws [] 0 3) (skim-range ws [] 0) n m _ (λ m. read (at, n) m) (λ rs m l. ap (λ (k : ℕ). read (at, k) m) l)
+    ∙ sym (changed-after (λ (k : ℕ). (at, k)) (forget (starts n (skimOne ws [] 0 3) m)) (λ u m. read n m)))))
     ∙ sym (changed-after (λ (k : ℕ). (at, k)) (word ws 2 (fitsKind 2) at) _)
 
 skim-places : (n : ℕ) (ws : List ℕ) (at : ℕ) → changed (map pairOf) (several n (readPlace ws) at) ≡ skimPlaces n ws at
@@ -204,7 +204,7 @@ pub transition-begins : (ws : List ℕ) (places : List Place) (at : ℕ) (t : Tr
 unfolding readTransition fitsKind
 transition-begins ws places at t next e =
     let g : Gives (λ (t : Transition) (next : ℕ). t .position ≡ at) (readTransition ws places at) =
-      then-gives (as-read (word ws 4 (fitsKind 4) at)) (λ w n h. then-gives (as-read (several (bits 0 3 w) (readRange ws) n)) (λ vs n h. then-gives (as-read (several (bits 4 7 w) (readArc ws places (bits 0 3 w)) n)) (λ is n h. then-gives (as-read (several (bits 8 11 w) (readArc ws places (bits 0 3 w)) n)) (λ os n h. then-gives (as-read (several (bits 12 15 w) (readConjunct ws (bits 0 3 w)) n)) (λ gs n h. then-gives (as-read (several (bits 16 19 w) (readElement ws) n)) (λ es n h. gives refl))))))
+    then-gives (as-read (word ws 4 (fitsKind 4) at)) (λ w n h. then-gives (as-read (several (bits 0 3 w) (readRange ws) n)) (λ vs n h. then-gives (as-read (several (bits 4 7 w) (readArc ws places (bits 0 3 w)) n)) (λ is n h. then-gives (as-read (several (bits 8 11 w) (readArc ws places (bits 0 3 w)) n)) (λ os n h. then-gives (as-read (several (bits 12 15 w) (readConjunct ws (bits 0 3 w)) n)) (λ gs n h. then-gives (as-read (several (bits 16 19 w) (readElement ws) n)) (λ es n h. gives refl))))))
     in
     given g e
 
@@ -213,9 +213,9 @@ unfolding readNet skimNet fitsKind pairOf
 skim-net ws at =
     changed-after netOutline (word ws 1 (fitsKind 1) at) _
     ∙ ap (then (word ws 1 (fitsKind 1) at)) (fun-ext (λ w. fun-ext (λ n.
-        changed-then (map pairOf) netOutline (several (bits 8 15 w) (readPlace ws) n) _ (next w) (λ ps m.
-          several-then netOutline (readTransition ws ps) (λ (t : Transition). t .position) (λ at. forget (skimTransition ws (map (λ (p : ℕ × ℕ). p .1) (map pairOf ps)) at)) (same ps) (transition-begins ws ps) (bits 0 7 w) m _ _ (λ ts m. refl))
-        ∙ ap (λ (x : Reading (List (ℕ × ℕ))). then x (next w)) (skim-places (bits 8 15 w) ws n))))
+    changed-then (map pairOf) netOutline (several (bits 8 15 w) (readPlace ws) n) _ (next w) (λ ps m.
+    several-then netOutline (readTransition ws ps) (λ (t : Transition). t .position) (λ at. forget (skimTransition ws (map (λ (p : ℕ × ℕ). p .1) (map pairOf ps)) at)) (same ps) (transition-begins ws ps) (bits 0 7 w) m _ _ (λ ts m. refl))
+    ∙ ap (λ (x : Reading (List (ℕ × ℕ))). then x (next w)) (skim-places (bits 8 15 w) ws n))))
   where
     next : ℕ → List (ℕ × ℕ) → ℕ → Reading NetOutline
     next w ps m = then (starts (bits 0 7 w) (λ at. forget (skimTransition ws (map (λ (p : ℕ × ℕ). p .1) ps) at)) m) (λ ts m. read (record { places = ps; transitions = ts }) m)

@@ -1,8 +1,8 @@
 -- The rules of passing over an arc, a conjunct and a word by itself: what the answer is, from the word taken and the answers of what
 -- follows it. Each rule is one arm of the code.
 use mathlib.Core.Path.{_≡_, refl, sym, ap, _∙_, subst}
-use Prim.Native.Nat.{ℕ, zero, suc, _+_, _≤_, _<_}
-use mathlib.Core.Bool.{Bool, true, false, cond, _&&_}
+use Prim.Native.Nat.{ℕ, _+_, _≤_, _<_}
+use mathlib.Core.Bool.{Bool, true, false, _&&_}
 use mathlib.Core.List.{List}
 use borrow.Author.Needs.{needs}
 use borrow.Author.Tests.{lt-ltb, le-ltb, ne-eqb}
@@ -13,14 +13,14 @@ use lib.Dec.{ltb, eqb}
 use lib.ListN.{length, getD}
 use Rattle.semantics.specs.Refusal.{badWord, mostWords}
 use Rattle.semantics.specs.Word.{kind, payload}
-use Rattle.semantics.specs.Reading.{Reading, read, refused, then, Reader, demand, wordAt, word}
+use Rattle.semantics.specs.Reading.{Reading, read, refused, then, demand, wordAt, word}
 use Rattle.expression.specs.declared.read.Skipped.{Skipped}
 use Rattle.expression.specs.declared.read.Skipped.the-variants.{Next, Refused}
 use Rattle.expression.specs.Skip.{forget, skipped}
 use Rattle.net.specs.declared.take.Taken.{Taken}
 use Rattle.net.specs.declared.take.Taken.the-variants.{Word, Refused as TakeRefused}
 use Rattle.net.specs.Skim.{fitsKind, starts, skimExpression, skimArc, skimConjunct, skimOne}
-use Rattle.net.specs.Index.{taken, Takes, Exists, IsTaken}
+use Rattle.net.specs.Index.{taken, Takes, IsTaken}
 
 -- a word that passes two tests, one after the other
 stricter : (ws : List ℕ) (k : ℕ) (weak ok : ℕ → Bool) → ((p : ℕ) → weak p ≡ true) → (at : ℕ) → word ws k ok at ≡ then (word ws k weak at) (λ p next. demand (ok p) at (read p next))

@@ -8,13 +8,12 @@ use borrow.Author.Needs.{needs}
 use borrow.Author.Tests.{leb-true}
 use native.Mathlib.Omega.{arith}
 use lib.Dec.{leb}
-use lib.ListN.{take}
 use Rattle.semantics.specs.Word.{only}
 use Rattle.semantics.specs.Reading.{Reading, read, refused, then, Reader}
 use Rattle.semantics.proofs.Tests.{false-true}
 use Rattle.expression.specs.declared.read.Skipped.{Skipped}
 use Rattle.expression.specs.declared.read.Skipped.the-variants.{Next, Refused}
-use Rattle.expression.specs.Skip.{forget}
+use Rattle.expression.specs.Skip.{forget, skipped}
 use Rattle.net.specs.declared.take.Taken.{Taken}
 use Rattle.net.specs.declared.take.Taken.the-variants.{Word, Refused as TakeRefused}
 use Rattle.net.specs.Skim.{fitsKind, starts, skimOne, Outline, skimTransition}
@@ -36,6 +35,11 @@ then-gives {A} {B} end a f e = by end ∙ ap (λ (x : Reading A). then x (λ a n
     by : (end : Skipped) → upTo end (f a) ≡ then (upTo end a) (λ a n. read (f a) n)
     by (Next n) = refl
     by (Refused m q) = refl
+
+-- its end alone
+pub skips : {A : Type 0} (end : Skipped) (a : A) {x : Reading A} → upTo end a ≡ x → skipped end ≡ forget x
+skips (Next n) a e = ap forget e
+skips (Refused m q) a e = ap forget e
 
 -- ── The parts that are left ──
 

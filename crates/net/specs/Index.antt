@@ -3,7 +3,7 @@
 use mathlib.Core.Path.{_≡_}
 use mathlib.Core.Bool.{true}
 use mathlib.Core.List.{List, zip}
-use Prim.Native.Nat.{ℕ, _+_, _^_, _<_}
+use Prim.Native.Nat.{ℕ, _+_, _<_}
 use lib.ListN.{length, take}
 use Rattle.semantics.specs.Reading.{Reading, read, refused, word}
 use Rattle.semantics.specs.Refusal.{mostWords}
@@ -61,7 +61,7 @@ outlined r =
       inputs = take (r .inputs) (r .«inputs_at»);
       outputs = take (r .outputs) (r .«outputs_at»);
       guard = take (r .conjuncts) (r .«conjuncts_at»);
-      plan = take (r .elements) (r .«elements_at»)
+      plan = take (r .elements) (r .«elements_at»);
     }
 
 abbrev pub transitionRead : TransitionIndex → Reading Outline

@@ -71,7 +71,7 @@ outline t =
       inputs = map (λ (a : Arc). a .position) (t .inputs);
       outputs = map (λ (a : Arc). a .position) (t .outputs);
       guard = map (λ (c : Conjunct). c .position) (t .guard);
-      plan = map (λ (e : Element). e .position) (t .plan)
+      plan = map (λ (e : Element). e .position) (t .plan);
     }
 
 unfoldable pub skimTransition : List ℕ → List ℕ → Reader Outline

@@ -82,7 +82,14 @@ pub struct Positions {
 }
 
 // n structures of one kind.
-pub fn skip_several(words: &[u32], widths: &[usize], variables: usize, k: u32, n: usize, at: usize) -> Positions
+pub fn skip_several(
+    words: &[u32],
+    widths: &[usize],
+    variables: usize,
+    k: u32,
+    n: usize,
+    at: usize,
+) -> Positions
     requires { ⌜ n ≤ 8 ⌝ }
     ensures { λ r. ⌜ positions n r ≡ starts n (skimOne (now (words .entry)) (now (widths .entry)) variables k) at ⌝ }
 {

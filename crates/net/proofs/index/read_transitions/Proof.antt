@@ -1,58 +1,38 @@
+-- `net::index::read_transitions` meets its contract: the loop of `Loops` that keeps positions, over the reader of a transition.
+use native.Mathlib.Omega.{arith}
+use mathlib.Core.Path.{_≡_, refl, _∙_}
+use Prim.Native.Nat.{_-_}
+use borrow.Author.Needs.{needs}
+use lib.ListN.{length, length-set}
+use Rattle.net.specs.Skim.{skimTransitions}
+use Rattle.net.proofs.Loops.{Collected, collected-start, collected-goes, collected-stops, looping}
+use Rattle.net.proofs.Transitions.{skips}
 use Rattle.net.proofs.index.read_transitions.Statement.{statement}
 use Rattle.net.proofs.index.read_transitions.Tie as tie
-use Rattle.net.proofs.index.read_transitions.Reads as reads
-use Rattle.net.proofs.index.read_transitions.Lts as lts
-use Rattle.net.proofs.index.read_transition.Reads as read-transition-reads
 
 abbrev Inv-loop : tie.InvT-loop
-Inv-loop words widths n at begins₀ i₀ next₀ begins i next = ?
+Inv-loop words widths n at begins₀ i₀ next₀ begins i next = Collected (skimTransitions words widths) n at i next begins × (length begins ≡ 64)
 
 abbrev μ-loop : tie.MeasureT-loop
-μ-loop words widths n at begins₀ i₀ next₀ begins i next = ?
+μ-loop words widths n at begins₀ i₀ next₀ begins i next = n - i
 
--- src/index.rt:187:5
 loop-holds : tie.Need-loop-holds Inv-loop μ-loop
-loop-holds c = ?
+loop-holds c = (collected-start _ _ _ _, refl)
 
--- src/index.rt:188:9
-mul-begins : tie.Need-mul-begins Inv-loop μ-loop
-mul-begins c = ?
-
--- src/index.rt:188:9
-array-write-begins : tie.Need-array-write-begins Inv-loop μ-loop
-array-write-begins c = ?
-
--- src/index.rt:189:13
-read-transition-requires : tie.Need-read-transition-requires Inv-loop μ-loop
-read-transition-requires c κs = ?
-
--- src/index.rt:192:27
-enum-known-end : tie.Need-enum-known-end Inv-loop μ-loop
-enum-known-end c = ?
-
--- src/index.rt:195:30
-enum-known-end-2 : tie.Need-enum-known-end-2 Inv-loop μ-loop
-enum-known-end-2 c = ?
-
--- src/index.rt:196:17
 returns : tie.Need-returns Inv-loop μ-loop
-returns c = ?
+returns c =
+    let lp = c .before .before .before .before .before .loop in
+    let rt = c .before .before .before .read-transition in
+    collected-stops (lp .inv .0) (omega arith) (skips (rt .result .end) _ (rt .ensures)) (c .before .end2 .given .1)
 
--- src/index.rt:202:9
-add-i : tie.Need-add-i Inv-loop μ-loop
-add-i c = ?
-
--- src/index.rt:187:5
-loop-less : tie.Need-loop-less Inv-loop μ-loop
-loop-less c = ?
-
--- src/index.rt:187:5
 loop-again : tie.Need-loop-again Inv-loop μ-loop
-loop-again c = ?
+loop-again c =
+    let lp = c .before .before .before .before .before .loop in
+    let rt = c .before .before .before .read-transition in
+    (collected-goes (lp .inv .0) (omega arith) (skips (rt .result .end) _ (rt .ensures)) (omega arith) (c .before .end .given .1), length-set (lp .begins) (lp .i) (lp .next) ∙ lp .inv .1)
 
--- src/index.rt:180:1
 returns-2 : tie.Need-returns-2 Inv-loop μ-loop
-returns-2 c = ?
+returns-2 c = search looping
 
 pub read-transitions-spec : {M : Type 1} → statement M
 read-transitions-spec =
@@ -61,13 +41,13 @@ read-transitions-spec =
     Inv-loop
     μ-loop
     loop-holds
-    mul-begins
-    array-write-begins
-    read-transition-requires
-    enum-known-end
-    enum-known-end-2
+    (λ c. omega arith)
+    (λ c. omega arith)
+    (λ c κs. search needs)
+    (λ c. search needs)
+    (λ c. search needs)
     returns
-    add-i
-    loop-less
+    (λ c. omega arith)
+    (λ c. omega arith)
     loop-again
     returns-2)
