@@ -1,3 +1,4 @@
+pub mod Taking
 pub mod Skimming
 pub mod Located
 pub mod Loops

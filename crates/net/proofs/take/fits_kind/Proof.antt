@@ -1,68 +1,62 @@
-use borrow.Author.Needs.{needs}
+-- `net::take::fits_kind` meets its contract: each arm's test is that of its kind.
+use mathlib.Core.Path.{refl}
+use mathlib.Core.Logic.{⊎-elim}
+use Rattle.net.specs.Skim.{fitsKind}
+use Rattle.net.proofs.Taking.{tests}
 use Rattle.net.proofs.take.fits_kind.Statement.{statement}
 use Rattle.net.proofs.take.fits_kind.Tie as tie
-use Rattle.net.proofs.take.fits_kind.Reads as reads
-use Rattle.net.proofs.take.fits_kind.Lts as lts
-use Rattle.net.proofs.take.fits_net.Reads as fits-net-reads
-use Rattle.net.proofs.take.fits_range.Reads as fits-range-reads
-use Rattle.net.proofs.take.fits_transition.Reads as fits-transition-reads
-use Rattle.net.proofs.take.in_limits.Reads as in-limits-reads
 
--- src/take.rt:74:14
 fits-net-requires : tie.Need-fits-net-requires
-fits-net-requires c κs = search needs
+fits-net-requires c κs = search tests
 
--- src/take.rt:75:14
 in-limits-requires : tie.Need-in-limits-requires
-in-limits-requires c κs = search needs
+in-limits-requires c κs = search tests
 
--- src/take.rt:76:14
 fits-range-requires : tie.Need-fits-range-requires
-fits-range-requires c κs = search needs
+fits-range-requires c κs = search tests
 
--- src/take.rt:77:14
 fits-transition-requires : tie.Need-fits-transition-requires
-fits-transition-requires c κs = search needs
+fits-transition-requires c κs = search tests
 
--- src/take.rt:70:1
 returns : tie.Need-returns
-returns c = ?
+unfolding fitsKind
+returns c = rw (c .before .match .keys1) (c .fits-net .ensures)
 
--- src/take.rt:70:1
 returns-2 : tie.Need-returns-2
-returns-2 c = ?
+unfolding fitsKind
+returns-2 c = rw (c .before .match .keys2) (c .in-limits .ensures)
 
--- src/take.rt:70:1
 returns-3 : tie.Need-returns-3
-returns-3 c = ?
+unfolding fitsKind
+returns-3 c = rw (c .before .match .keys3) (c .fits-range .ensures)
 
--- src/take.rt:70:1
 returns-4 : tie.Need-returns-4
-returns-4 c = ?
+unfolding fitsKind
+returns-4 c = rw (c .before .match .keys4) (c .fits-transition .ensures)
 
--- src/take.rt:70:1
 returns-5 : tie.Need-returns-5
-returns-5 c = ?
+unfolding fitsKind
+returns-5 c = rw (c .match .keys5) refl
 
--- src/take.rt:70:1
 returns-6 : tie.Need-returns-6
-returns-6 c = ?
+unfolding fitsKind
+returns-6 c = rw (c .before .match .keys6) (search tests)
 
--- src/take.rt:70:1
 returns-7 : tie.Need-returns-7
-returns-7 c = ?
+unfolding fitsKind
+returns-7 c = rw (c .before .match .keys6) (search tests)
 
--- src/take.rt:70:1
 returns-8 : tie.Need-returns-8
-returns-8 c = ?
+unfolding fitsKind
+returns-8 c = search tests
 
--- src/take.rt:70:1
 returns-9 : tie.Need-returns-9
-returns-9 c = ?
+unfolding fitsKind
+returns-9 c = ⊎-elim (λ e. rw e refl) (λ e. rw e refl) (c .match .keys7)
 
--- src/take.rt:70:1
 returns-10 : tie.Need-returns-10
-returns-10 c = ?
+unfolding fitsKind
+returns-10 c = search tests
 
 pub fits-kind-spec : {M : Type 1} → statement M
 fits-kind-spec =

@@ -1,31 +1,26 @@
+-- `net::take::fits_transition` meets its contract: the fields in the order of the definition, each looked at where those before it fit.
+use Rattle.word.proofs.Words.{bits-low}
+use Rattle.net.proofs.Taking.{tests}
 use Rattle.net.proofs.take.fits_transition.Statement.{statement}
 use Rattle.net.proofs.take.fits_transition.Tie as tie
-use Rattle.net.proofs.take.fits_transition.Reads as reads
-use Rattle.net.proofs.take.fits_transition.Lts as lts
 
--- src/take.rt:52:9
 returns : tie.Need-returns
-returns c = ?
+returns c = search tests
 
--- src/take.rt:55:9
 returns-2 : tie.Need-returns-2
-returns-2 c = ?
+returns-2 c = rw bits-low (search tests)
 
--- src/take.rt:58:9
 returns-3 : tie.Need-returns-3
-returns-3 c = ?
+returns-3 c = rw bits-low (search tests)
 
--- src/take.rt:61:9
 returns-4 : tie.Need-returns-4
-returns-4 c = ?
+returns-4 c = rw bits-low (search tests)
 
--- src/take.rt:64:9
 returns-5 : tie.Need-returns-5
-returns-5 c = ?
+returns-5 c = rw bits-low (search tests)
 
--- src/take.rt:48:1
 returns-6 : tie.Need-returns-6
-returns-6 c = ?
+returns-6 c = rw bits-low (search tests)
 
 pub fits-transition-spec : {M : Type 1} → statement M
 fits-transition-spec =

@@ -1,51 +1,43 @@
+-- `net::take::take` meets its contract: a law of Taking for each return.
+use native.Mathlib.Omega.{arith}
 use borrow.Author.Needs.{needs}
+use Rattle.net.proofs.Taking.{ends-early, too-long, other-kind, unfit, fit}
 use Rattle.net.proofs.take.take.Statement.{statement}
 use Rattle.net.proofs.take.take.Tie as tie
-use Rattle.net.proofs.take.take.Reads as reads
-use Rattle.net.proofs.take.take.Lts as lts
-use Rattle.net.proofs.take.fits_kind.Reads as fits-kind-reads
-use Rattle.word.proofs.fields.kind.Reads as kind-reads
-use Rattle.word.proofs.fields.payload.Reads as payload-reads
 
--- src/take.rt:90:9
 returns : tie.Need-returns
-returns c = ?
+returns c = ends-early _ _ _ (omega arith)
 
--- src/take.rt:93:9
 returns-2 : tie.Need-returns-2
-returns-2 c = ?
+returns-2 c = too-long _ _ _ (omega arith) (omega arith)
 
--- src/take.rt:95:13
 mul-w : tie.Need-mul-w
 mul-w c = search needs
 
--- src/take.rt:95:13
 shared-slice-read-w : tie.Need-shared-slice-read-w
 shared-slice-read-w c = search needs
 
--- src/take.rt:96:8
 kind-requires : tie.Need-kind-requires
 kind-requires c κs = search needs
 
--- src/take.rt:97:9
 returns-3 : tie.Need-returns-3
-returns-3 c = ?
+returns-3 c = other-kind _ _ _ _ (omega arith) (omega arith) (c .before .kind .ensures .0) (c .if3 .taken)
 
--- src/take.rt:99:9
 payload-requires : tie.Need-payload-requires
 payload-requires c κs = search needs
 
--- src/take.rt:100:8
 fits-kind-requires : tie.Need-fits-kind-requires
 fits-kind-requires c κs = search needs
 
--- src/take.rt:86:1
 returns-4 : tie.Need-returns-4
-returns-4 c = ?
+returns-4 c =
+    let tested = c .before .before .before in
+    fit _ _ _ _ (omega arith) (omega arith) (tested .before .kind .ensures .0) (tested .if3 .left) _ (c .before .before .payload .ensures .0) _ (c .before .fits-kind .ensures) (c .if4 .taken)
 
--- src/take.rt:86:1
 returns-5 : tie.Need-returns-5
-returns-5 c = ?
+returns-5 c =
+    let tested = c .before .before .before in
+    unfit _ _ _ _ (omega arith) (omega arith) (tested .before .kind .ensures .0) (tested .if3 .left) _ (c .before .before .payload .ensures .0) _ (c .before .fits-kind .ensures) (c .if4 .left)
 
 pub take-spec : {M : Type 1} → statement M
 take-spec =
