@@ -1,0 +1,7 @@
+pub mod Taking
+pub mod Skimming
+pub mod Located
+pub mod Loops
+pub mod Structures
+pub mod Transitions
+pub mod Nets

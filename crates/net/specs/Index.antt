@@ -1,0 +1,82 @@
+-- What the answers of the readers in src/ say: as readings of specs/Skim.
+-- Rests on Skim.
+use mathlib.Core.Path.{_≡_}
+use mathlib.Core.Bool.{true}
+use mathlib.Core.List.{List, zip}
+use Prim.Native.Nat.{ℕ, _+_, _<_}
+use lib.ListN.{length, take}
+use Rattle.semantics.specs.Reading.{Reading, read, refused, word}
+use Rattle.semantics.specs.Refusal.{mostWords}
+use Rattle.net.specs.declared.take.Taken.{Taken}
+use Rattle.net.specs.declared.take.Taken.the-variants.{Word, Refused as TakeRefused}
+use Rattle.expression.specs.declared.read.Skipped.{Skipped}
+use Rattle.expression.specs.declared.read.Skipped.the-variants.{Next, Refused}
+use Rattle.net.specs.declared.skim.Positions.{Positions}
+use Rattle.net.specs.declared.index.TransitionIndex.{TransitionIndex}
+use Rattle.net.specs.declared.index.PlaceIndex.{PlaceIndex}
+use Rattle.net.specs.declared.index.Places.{Places}
+use Rattle.net.specs.declared.index.Starts.{Starts}
+use Rattle.net.specs.declared.index.NetIndex.{NetIndex}
+use Rattle.net.specs.Skim.{fitsKind, Outline, NetOutline}
+
+-- the word taken at a position
+abbrev pub taken : ℕ → Taken → Reading ℕ
+taken at (Word p) = read p (at + 1)
+taken at (TakeRefused n q) = refused n q
+
+-- a word that was taken exists and passes its test
+pub record Exists (ws : List ℕ) (at k p : ℕ) : Type 0 where
+  pub in-words : at < length ws
+  pub in-limit : at < mostWords
+  pub fits : fitsKind k p ≡ true
+
+abbrev pub Takes : List ℕ → ℕ → ℕ → Taken → Type 0
+Takes ws at k (Word p) = Exists ws at k p
+Takes ws at k (TakeRefused n q) = Unit {0}
+
+pub record IsTaken (ws : List ℕ) (at k : ℕ) (r : Taken) : Type 0 where
+  pub same : taken at r ≡ word ws k (fitsKind k) at
+  pub exists : Takes ws at k r
+
+-- a refused word's refusal; a word that was taken has none
+abbrev pub refusalOf : Taken → Skipped
+refusalOf (Word p) = Next 0
+refusalOf (TakeRefused n q) = Refused n q
+
+-- ── Structures ──
+
+-- what was read up to an end, or its refusal
+abbrev pub upTo : {A : Type 0} → Skipped → A → Reading A
+upTo (Next next) a = read a next
+upTo (Refused n p) a = refused n p
+
+-- where n structures begin
+abbrev pub positions : ℕ → Positions → Reading (List ℕ)
+positions n r = upTo (r .end) (take n (r .at))
+
+abbrev pub outlined : TransitionIndex → Outline
+outlined r =
+    record {
+      variables = r .variables;
+      inputs = take (r .inputs) (r .«inputs_at»);
+      outputs = take (r .outputs) (r .«outputs_at»);
+      guard = take (r .conjuncts) (r .«conjuncts_at»);
+      plan = take (r .elements) (r .«elements_at»);
+    }
+
+abbrev pub transitionRead : TransitionIndex → Reading Outline
+transitionRead r = upTo (r .end) (outlined r)
+
+abbrev pub placeRead : PlaceIndex → Reading ℕ
+placeRead r = upTo (r .end) (r .width)
+
+-- where n places begin, and their widths
+abbrev pub placesRead : ℕ → Places → Reading (List (ℕ × ℕ))
+placesRead n r = upTo (r .end) (zip (take n (r .at)) (take n (r .widths)))
+
+abbrev pub startsRead : ℕ → Starts → Reading (List ℕ)
+startsRead n r = upTo (r .end) (take n (r .at))
+
+abbrev pub netRead : NetIndex → Reading NetOutline
+netRead r =
+    upTo (r .end) (record { places = zip (take (r .places) (r .«places_at»)) (take (r .places) (r .widths)); transitions = take (r .transitions) (r .«transitions_at») })

@@ -1,0 +1,2 @@
+pub mod Skim
+pub mod Index

@@ -1,0 +1,8 @@
+// Nets: read from words in one pass, their plans checked; `check` and `split`.
+
+// One word of a structure.
+pub mod take;
+// Structures passed over, with the positions at which they begin.
+pub mod skim;
+// Where the structures of a net and of a transition begin.
+pub mod index;

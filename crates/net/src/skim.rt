@@ -1,0 +1,118 @@
+// Structures passed over: an arc, a conjunct or a word by itself, and several of a kind with the positions at which they begin.
+use crate::take::Taken;
+use crate::take::take;
+use expression::read::Skipped;
+use expression::read::skip_expression;
+ghost use mathlib.Core.Path.{_≡_};
+ghost use Prim.Native.Nat.{_≤_};
+ghost use Rattle.expression.specs.Skip.{forget, skipped};
+ghost use Rattle.net.specs.Skim.{starts, skimExpression, skimArc, skimConjunct, skimOne};
+ghost use Rattle.net.specs.Index.{positions};
+
+// So many expressions.
+fn skip_expressions(words: &[u32], variables: usize, n: usize, at: usize) -> Skipped
+    ensures { λ r. ⌜ skipped r ≡ forget (starts n (skimExpression (now (words .entry)) variables) at) ⌝ }
+{
+    let mut i = 0;
+    let mut next = at;
+    while i < n {
+        match skip_expression(words, variables, next) {
+            Skipped::Next(p) => {
+                next = p;
+            }
+            Skipped::Refused(m, q) => {
+                return Skipped::Refused(m, q);
+            }
+        }
+        i += 1;
+    }
+    Skipped::Next(next)
+}
+
+// An arc: ARC, a coefficient and as many components as its place has; `widths` has that number for each place.
+fn skip_arc(words: &[u32], widths: &[usize], variables: usize, at: usize) -> Skipped
+    ensures { λ r. ⌜ skipped r ≡ skimArc (now (words .entry)) (now (widths .entry)) variables at ⌝ }
+{
+    match take(words, at, 5) {
+        Taken::Word(p) => {
+            let place = p as usize;
+            if widths.len() <= place {
+                return Skipped::Refused(3, at);
+            }
+            match skip_expression(words, variables, at + 1) {
+                Skipped::Next(next) => skip_expressions(words, variables, widths[place], next),
+                Skipped::Refused(n, q) => Skipped::Refused(n, q),
+            }
+        }
+        Taken::Refused(m, s) => Skipped::Refused(m, s),
+    }
+}
+
+// A conjunct: its word and two expressions.
+fn skip_conjunct(words: &[u32], variables: usize, at: usize) -> Skipped
+    ensures { λ r. ⌜ skipped r ≡ skimConjunct (now (words .entry)) variables at ⌝ }
+{
+    match take(words, at, 6) {
+        Taken::Word(_) => match skip_expression(words, variables, at + 1) {
+            Skipped::Next(next) => skip_expression(words, variables, next),
+            Skipped::Refused(n, q) => Skipped::Refused(n, q),
+        },
+        Taken::Refused(m, s) => Skipped::Refused(m, s),
+    }
+}
+
+// A structure by the code of its first word: an arc, a conjunct, or a word by itself.
+fn skip_one(words: &[u32], widths: &[usize], variables: usize, k: u32, at: usize) -> Skipped
+    ensures { λ r. ⌜ skipped r ≡ skimOne (now (words .entry)) (now (widths .entry)) variables k at ⌝ }
+{
+    match k {
+        5 => skip_arc(words, widths, variables, at),
+        6 => skip_conjunct(words, variables, at),
+        _ => match take(words, at, k) {
+            Taken::Word(_) => Skipped::Next(at + 1),
+            Taken::Refused(m, s) => Skipped::Refused(m, s),
+        },
+    }
+}
+
+// The end of up to eight structures, and where each begins.
+pub struct Positions {
+    pub end: Skipped,
+    pub at: [usize; 8],
+}
+
+// n structures of one kind.
+pub fn skip_several(
+    words: &[u32],
+    widths: &[usize],
+    variables: usize,
+    k: u32,
+    n: usize,
+    at: usize,
+) -> Positions
+    requires { ⌜ n ≤ 8 ⌝ }
+    ensures { λ r. ⌜ positions n r ≡ starts n (skimOne (now (words .entry)) (now (widths .entry)) variables k) at ⌝ }
+{
+    let mut begins = [0usize; 8];
+    let mut i = 0;
+    let mut next = at;
+    while i < n {
+        begins[i] = next;
+        match skip_one(words, widths, variables, k, next) {
+            Skipped::Next(p) => {
+                next = p;
+            }
+            Skipped::Refused(m, q) => {
+                return Positions {
+                    end: Skipped::Refused(m, q),
+                    at: begins,
+                };
+            }
+        }
+        i += 1;
+    }
+    Positions {
+        end: Skipped::Next(next),
+        at: begins,
+    }
+}
