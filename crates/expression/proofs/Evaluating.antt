@@ -1,7 +1,7 @@
 -- The rules of evaluating: the value of an expression, from its head and the outcomes of its operands. Each is one arm of the code.
-use mathlib.Core.Path.{_≡_, refl, sym, ap, _∙_}
+use mathlib.Core.Path.{_≡_, refl}
 use mathlib.Core.List.{List}
-use mathlib.Core.Option.{Option, some, bind}
+use mathlib.Core.Option.{Option, bind}
 use Prim.Native.Nat.{ℕ, _+_, _-_, _<_}
 use native.Mathlib.Omega.{arith}
 use borrow.Author.Needs.{needs}

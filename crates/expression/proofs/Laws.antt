@@ -1,5 +1,5 @@
 -- What holds of an expression that is read at a position, for whoever passes over it or evaluates it there: how far it reaches, what its first
--- word says of it, which of its words are its variables, and what evaluating it answers. Rests on Spelled and Passing.
+-- word says of it, which of its words are its variables, and what evaluating it answers. Rests on Spelled.
 use mathlib.Core.Path.{_≡_, refl, sym, ap, _∙_}
 use mathlib.Core.Bool.{Bool, cond, not, _&&_, _||_, and-true, and-assoc}
 use mathlib.Core.List.{List, [], _∷_, _++_, map}
@@ -30,12 +30,12 @@ use Rattle.expression.proofs.Spelled.{HeadWord, headOfTree, Spelled, sp
 
 -- ── Parts of the words ──
 
-every-append : {A : Type 0} (p : A → Bool) (xs ys : List A) → every p (xs ++ ys) ≡ (every p xs && every p ys)
+pub every-append : {A : Type 0} (p : A → Bool) (xs ys : List A) → every p (xs ++ ys) ≡ (every p xs && every p ys)
 unfolding every
 every-append p [] ys = refl
 every-append p (x ∷ xs) ys = ap (λ (t : Bool). p x && t) (every-append p xs ys) ∙ sym (and-assoc (p x) (every p xs) (every p ys))
 
-slice-split : {A : Type 0} (from mid to : ℕ) (l : List A) → from ≤ mid → mid ≤ to → mid ≤ length l → slice from to l ≡ slice from mid l ++ slice mid to l
+pub slice-split : {A : Type 0} (from mid to : ℕ) (l : List A) → from ≤ mid → mid ≤ to → mid ≤ length l → slice from to l ≡ slice from mid l ++ slice mid to l
 slice-split {A} from mid to l h i j =
     let t = take-take mid to l i in
     let n : from ≤ length (take mid (take to l)) = rw (t, length-take-le mid l j) h in

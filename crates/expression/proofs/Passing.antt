@@ -1,7 +1,7 @@
 -- The rules of passing over an expression: where it leads, from its head and from where its operands lead. Each is one arm of the code.
 use mathlib.Core.Path.{_≡_, refl, sym, _∙_}
 use mathlib.Core.List.{List}
-use Prim.Native.Nat.{ℕ, _+_, _-_, _<_}
+use Prim.Native.Nat.{ℕ, _-_, _<_}
 use native.Mathlib.Omega.{arith}
 use borrow.Author.Needs.{needs}
 use lib.IntN.{ℤ}
@@ -14,7 +14,7 @@ use Rattle.expression.specs.declared.head.Head.the-variants.{Constant, V
 use Rattle.expression.specs.declared.read.Passed.{Passed}
 use Rattle.expression.specs.declared.read.Passed.the-variants.{To, Refused as Stopped}
 use Rattle.expression.specs.Head.{Onward, IsHead}
-use Rattle.expression.specs.Skip.{forget, passed, Passes, IsPassed}
+use Rattle.expression.specs.Skip.{forget, Passes, IsPassed}
 use Rattle.expression.proofs.Heads.{onward-more, head-onward, headed, load-falls, first-falls}
 
 -- ── Readings without what was read ──

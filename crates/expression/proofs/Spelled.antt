@@ -1,7 +1,6 @@
 -- The words of an expression that was read: the first says what it is, and the words of its operands follow (`Spelled`).
 -- The proof follows the reader. Rests on semantics/proofs/Readers.
 use mathlib.Core.Path.{_≡_, refl}
-use mathlib.Core.Bool.{Bool, true, false}
 use mathlib.Core.List.{List}
 use Prim.Native.Nat.{ℕ, zero, suc, _+_, _<_}
 use borrow.Author.Tests.{leb-false, ltb-true, eqb-true}
