@@ -67,7 +67,7 @@ zip-snoc [] (b ∷ ys) x y l = absurd (omega arith)
 zip-snoc (a ∷ xs) [] x y l = absurd (omega arith)
 zip-snoc (a ∷ xs) (b ∷ ys) x y l = ap (λ (r : List (ℕ × ℕ)). (a, b) ∷ r) (zip-snoc xs ys x y (omega arith))
 
-taken-alike : (xs ys : List ℕ) (n : ℕ) → n ≤ length xs → n ≤ length ys → length (take n xs) ≡ length (take n ys)
+pub taken-alike : (xs ys : List ℕ) (n : ℕ) → n ≤ length xs → n ≤ length ys → length (take n xs) ≡ length (take n ys)
 taken-alike xs ys n h k = length-take-le n xs h ∙ sym (length-take-le n ys k)
 
 -- n places are read from a position; the i first of them begin at `begins` and have `widths`
@@ -101,7 +101,7 @@ module _ {ws : List ℕ} {n at i next : ℕ} {begins widths : List ℕ} (a : Pla
 
 -- ── A net ──
 
-seconds : (xs ys : List ℕ) → length xs ≡ length ys → map (λ (p : ℕ × ℕ). p .1) (zip xs ys) ≡ ys
+pub seconds : (xs ys : List ℕ) → length xs ≡ length ys → map (λ (p : ℕ × ℕ). p .1) (zip xs ys) ≡ ys
 unfolding zip zipWith
 seconds [] [] l = refl
 seconds [] (b ∷ ys) l = absurd (omega arith)

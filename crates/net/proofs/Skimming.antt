@@ -168,11 +168,11 @@ skim-transition ws places at =
 
 -- ── Places, and the net ──
 
-pairOf : Place → ℕ × ℕ
+abbrev pub pairOf : Place → ℕ × ℕ
 pairOf q = (q .position, width q)
 
 skim-place : (ws : List ℕ) (at : ℕ) → changed pairOf (readPlace ws at) ≡ changed (λ (k : ℕ). (at, k)) (skimPlace ws at)
-unfolding readPlace skimPlace fitsKind pairOf
+unfolding readPlace skimPlace fitsKind
 skim-place ws at =
     changed-after pairOf (word ws 2 (fitsKind 2) at) _
     ∙ ap (then (word ws 2 (fitsKind 2) at)) (fun-ext (λ n. fun-ext (λ m.
@@ -195,8 +195,7 @@ skim-places (suc n) ws at =
     paired (read k m) = refl
     paired (refused i j) = refl
 
-widths-of : (ps : List Place) → map (λ (p : ℕ × ℕ). p .1) (map pairOf ps) ≡ map width ps
-unfolding pairOf
+pub widths-of : (ps : List Place) → map (λ (p : ℕ × ℕ). p .1) (map pairOf ps) ≡ map width ps
 widths-of [] = refl
 widths-of (p ∷ ps) = ap (λ (ns : List ℕ). width p ∷ ns) (widths-of ps)
 
@@ -209,7 +208,7 @@ transition-begins ws places at t next e =
     given g e
 
 pub skim-net : (ws : List ℕ) (at : ℕ) → changed netOutline (readNet ws at) ≡ skimNet ws at
-unfolding readNet skimNet fitsKind pairOf
+unfolding readNet skimNet fitsKind
 skim-net ws at =
     changed-after netOutline (word ws 1 (fitsKind 1) at) _
     ∙ ap (then (word ws 1 (fitsKind 1) at)) (fun-ext (λ w. fun-ext (λ n.

@@ -1,4 +1,4 @@
--- Reading a net for its positions alone: where structures begin, without the data that semantics reads. proofs/Skim.antt shows that
+-- Reading a net for its positions alone: where structures begin, without the data that semantics reads. proofs/Skimming.antt shows that
 -- these readings are those of semantics with the data left out. Rests on semantics.
 use Prim.Native.Nat.{ℕ, zero, suc, _+_}
 use mathlib.Core.Bool.{Bool, true, false, cond, _&&_}

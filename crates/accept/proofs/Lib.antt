@@ -1,0 +1,5 @@
+pub mod Fitness
+pub mod Binding
+pub mod Solving
+pub mod Faults
+pub mod Checking
