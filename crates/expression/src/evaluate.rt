@@ -1,3 +1,4 @@
+// The value of an expression under lent binding words, and where it ends. Rests on head and the crate word.
 use crate::head::Head;
 use crate::head::MOST_EXPRESSION_WORDS;
 use crate::head::head_at;

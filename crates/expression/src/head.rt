@@ -1,3 +1,4 @@
+// The first word of an expression: what it is, the position after it and the words left. Rests on the crate word.
 use word::fields::kind;
 use word::fields::payload;
 use word::fields::signed;

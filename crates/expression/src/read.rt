@@ -1,3 +1,4 @@
+// An expression passed over: where it ends, or its refusal. Rests on head.
 use crate::head::Head;
 use crate::head::MOST_EXPRESSION_WORDS;
 use crate::head::head_at;

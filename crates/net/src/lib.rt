@@ -1,4 +1,4 @@
-// Nets: read from words in one pass, their plans checked; `check` and `split`.
+// Nets: read from words in one pass, for the positions at which their structures begin.
 
 // One word of a structure.
 pub mod take;

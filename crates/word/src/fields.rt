@@ -1,3 +1,4 @@
+// Words: their kind and fields, values of 14 bits, ranges, and the VALUE and TOKEN words that are written. Rests on the definitions alone.
 ghost use mathlib.Core.Path.{_≡_};
 ghost use Prim.Native.Nat.{_<_, _%_};
 ghost use lib.Signed.{mag};
