@@ -1,5 +1,5 @@
--- Structures by their positions: the words at the position of a transition, an arc, a conjunct or an element of a net that was read
--- read as that structure. The idea: each member of a list that is read was read where it says that it begins.
+-- Structures by their positions: in a net that was read, the words at the position of a place, a transition, an arc, a conjunct or an
+-- element read as that structure. The idea: each member of a list that is read was read where it says that it begins.
 use mathlib.Core.Path.{_≡_, refl, sym, ap, _∙_, subst}
 use Prim.Native.Nat.{ℕ, zero, suc}
 use mathlib.Core.List.{List, [], _∷_, map}
@@ -11,7 +11,7 @@ use Rattle.semantics.specs.Net.{Place, Arc, Conjunct, Element, Transition, Net}
 use Rattle.semantics.specs.ReadNet.{readRange, readPlace, readArc, readConjunct, readElement, readTransition, readNet}
 use Rattle.semantics.proofs.Readers.{Gives, gives, refusal, given, then-gives, as-read, weaken}
 use Rattle.net.specs.Skim.{fitsKind}
-use Rattle.net.proofs.Skimming.{several-length, arc-begins, conjunct-begins, element-begins, transition-begins}
+use Rattle.net.proofs.Skimming.{several-length, place-begins, arc-begins, conjunct-begins, element-begins, transition-begins}
 
 -- a structure stands at its position
 pub record At {A : Type 0} (r : Reader A) (position : A → ℕ) (x : A) : Type 0 where
@@ -45,6 +45,18 @@ transition-parts ws places at t next e = given parts e
         then-gives (located (readConjunct ws (bits 0 3 w)) (λ (c : Conjunct). c .position) (conjunct-begins ws (bits 0 3 w)) (bits 12 15 w) n) (λ gs n g.
         then-gives (located (readElement ws) (λ (e : Element). e .position) (element-begins ws) (bits 16 19 w) n) (λ es n d.
         gives (record { inputs = rw l (i .1); outputs = rw l (o .1); guard = rw l (g .1); plan = d .1 })))))))
+
+-- the places of a net stand at their positions
+pub net-places : (ws : List ℕ) (at : ℕ) (net : Net) (next : ℕ) → readNet ws at ≡ read net next → Every (At (readPlace ws) (λ (q : Place). q .position)) (net .places)
+unfolding readNet fitsKind
+net-places ws at net next e = given there e
+  where
+    there : Gives (λ (net : Net) (next : ℕ). Every (At (readPlace ws) (λ (q : Place). q .position)) (net .places)) (readNet ws at)
+    there =
+        then-gives (as-read (word ws 1 (fitsKind 1) at)) (λ w n h.
+        then-gives (located (readPlace ws) (λ (q : Place). q .position) (place-begins ws) (bits 8 15 w) n) (λ ps n g.
+        then-gives (as-read (several (bits 0 7 w) (readTransition ws ps) n)) (λ ts n h.
+        gives (g .1))))
 
 -- the transitions of a net stand at their positions
 pub net-transitions : (ws : List ℕ) (at : ℕ) (net : Net) (next : ℕ) → readNet ws at ≡ read net next → Every (At (readTransition ws (net .places)) (λ (t : Transition). t .position)) (net .transitions)

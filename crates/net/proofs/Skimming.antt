@@ -128,6 +128,12 @@ changed-number {A} g r n at k k′ f = by (several n r at) refl
     by (refused i j) e = refl
     by (read xs m) e = f xs m (several-length r n at xs m e)
 
+pub place-begins : (ws : List ℕ) (at : ℕ) (q : Place) (next : ℕ) → readPlace ws at ≡ read q next → q .position ≡ at
+unfolding readPlace fitsKind
+place-begins ws at q next e =
+    let g : Gives (λ (q : Place) (next : ℕ). q .position ≡ at) (readPlace ws at) = then-gives (as-read (word ws 2 (fitsKind 2) at)) (λ n m h. then-gives (as-read (several n (readRange ws) m)) (λ rs m h. gives refl)) in
+    given g e
+
 pub arc-begins : (ws : List ℕ) (places : List Place) (v at : ℕ) (a : Arc) (next : ℕ) → readArc ws places v at ≡ read a next → a .position ≡ at
 unfolding readArc
 arc-begins ws places v at a next e =

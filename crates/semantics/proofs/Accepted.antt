@@ -120,7 +120,7 @@ module _ (ws : List ℕ) (v : ℕ) where
       by l (binaryHead o) mid h = after l λ a _ p. after l λ b _ q. done (and-both _ _ p q)
       by l loadHead mid h = after l λ a _ p. done p
 
-  expression-reads : Reads ws (SoundExpression v) (readExpression ws v)
+  pub expression-reads : Reads ws (SoundExpression v) (readExpression ws v)
   unfolding readExpression
   expression-reads at = rounds-read (mostExpressionWords + 1) (at + mostExpressionWords) at
 
@@ -143,7 +143,7 @@ few-counts o a b c d e h =
     (leb-true a 8 (to-a .1), leb-true b 8 (to-b .1), leb-true c 8 (to-c .1), leb-true d 8 (to-d .1), leb-true e 8 (to-e .1))
 
 module _ (ws : List ℕ) where
-  range-reads : Reads ws Valued (readRange ws)
+  pub range-reads : Reads ws Valued (readRange ws)
   unfolding readRange
   range-reads at =
       after (word-reads ws 3 _) λ w _ h.
@@ -222,7 +222,7 @@ pub read-sound : (ws : List ℕ) (at : ℕ) (net : Net) (next : ℕ) → readNet
 read-sound ws at net next e = given (net-reads ws at) e .0
 
 pub read-inside : (ws : List ℕ) (at : ℕ) (net : Net) (next : ℕ) → readNet ws at ≡ read net next → Inside ws at → Inside ws next
-read-inside ws at net next e = given (net-reads ws at) e .1
+read-inside ws at net next e = given (net-reads ws at) e .2
 
 -- ── Accepted nets ──
 
@@ -252,7 +252,7 @@ module _ (ws : List ℕ) where
       withPlans-gives (plansFault (net .transitions)) λ f.
       gives (e, f, ltb-false next (length ws) g)
 
-  inside-0 : Inside ws 0
+  pub inside-0 : Inside ws 0
   inside-0 = record { in-words = omega arith; in-limit = omega arith }
 
 module _ (ws : List ℕ) (net : Net) (next : ℕ) where

@@ -6,6 +6,7 @@ pub mod Order
 pub mod Tuples
 pub mod Readers
 pub mod Accepted
+pub mod Positions
 pub mod Enabling
 pub mod Step
 pub mod Partial

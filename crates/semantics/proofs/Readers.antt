@@ -1,4 +1,5 @@
--- What readers guarantee: a reader reads what has a property, and it never passes the end of the words or 16,384 words.
+-- What readers guarantee: a reader reads what has a property, it never goes back, and it passes neither the end of the words nor 16,384
+-- words.
 -- One law for each way of making a reader, so that the law of a structure is written as its reader is, line by line.
 -- Rests on Tests.
 use mathlib.Core.Path.{_≡_, refl, ap, subst}
@@ -57,9 +58,9 @@ pub record Inside (ws : List ℕ) (at : ℕ) : Type 0 where
   pub in-words : at ≤ length ws
   pub in-limit : at ≤ mostWords
 
--- what a reading from a position reads has a property, and from inside the words it leads to inside the words
+-- what a reading from a position reads has a property; it does not go back, and from inside the words it leads to inside the words
 abbrev pub ReadsFrom : {A : Type 0} → List ℕ → (A → Type 0) → ℕ → Reading A → Type 0
-ReadsFrom ws P at x = Gives (λ a next. P a × (Inside ws at → Inside ws next)) x
+ReadsFrom ws P at x = Gives (λ a next. P a × (at ≤ next) × (Inside ws at → Inside ws next)) x
 
 -- so does a reader from every position
 abbrev pub Reads : {A : Type 0} → List ℕ → (A → Type 0) → Reader A → Type 0
@@ -68,11 +69,11 @@ Reads ws P r = (at : ℕ) → ReadsFrom ws P at (r at)
 module _ {ws : List ℕ} where
   -- nothing more is read
   pub done : {A : Type 0} {P : A → Type 0} {at : ℕ} {a : A} → P a → ReadsFrom ws P at (read a at)
-  done h = gives (h, λ i. i)
+  done {at} h = gives {next = at} (h, omega arith, λ i. i)
 
   -- a reader, and what comes after it
   pub after : {A B : Type 0} {P : A → Type 0} {Q : B → Type 0} {at : ℕ} {r : Reader A} {k : A → Reader B} → Reads ws P r → ((a : A) (mid : ℕ) → P a → ReadsFrom ws Q mid (k a mid)) → ReadsFrom ws Q at (then (r at) k)
-  after {at} l f = then-gives (l at) (λ a mid h. weaken (λ b next q. (q .0, λ i. q .1 (h .1 i))) (f a mid (h .0)))
+  after {at} l f = then-gives (l at) (λ a mid h. weaken (λ b next q. (q .0, omega arith, λ i. q .2 (h .2 i))) (f a mid (h .0)))
 
   pub several-reads : {A : Type 0} {P : A → Type 0} {r : Reader A} (n : ℕ) → Reads ws P r → Reads ws (λ xs. (length xs ≡ n) × Every P xs) (several n r)
   unfolding several
@@ -85,7 +86,7 @@ module _ (ws : List ℕ) where
   wordAt-reads at =
       cond-gives (leb (length ws) at) (λ e. refusal) λ e.
       cond-gives (leb mostWords at) (λ f. refusal) λ f.
-      gives (tt, λ i. record { in-words = omega (arith, leb-false (length ws) at e); in-limit = omega (arith, leb-false mostWords at f) })
+      gives (tt, omega arith, λ i. record { in-words = omega (arith, leb-false (length ws) at e); in-limit = omega (arith, leb-false mostWords at f) })
 
   pub word-reads : (k : ℕ) (ok : ℕ → Bool) → Reads ws (λ v. ok v ≡ true) (word ws k ok)
   unfolding word
