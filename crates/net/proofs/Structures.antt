@@ -23,7 +23,7 @@ use Rattle.net.specs.Skim.{fitsKind, starts, skimExpression, skimArc, sk
 use Rattle.net.specs.Index.{taken, Takes, IsTaken}
 
 -- a word that passes two tests, one after the other
-stricter : (ws : List ℕ) (k : ℕ) (weak ok : ℕ → Bool) → ((p : ℕ) → weak p ≡ true) → (at : ℕ) → word ws k ok at ≡ then (word ws k weak at) (λ p next. demand (ok p) at (read p next))
+pub stricter : (ws : List ℕ) (k : ℕ) (weak ok : ℕ → Bool) → ((p : ℕ) → weak p ≡ true) → (at : ℕ) → word ws k ok at ≡ then (word ws k weak at) (λ p next. demand (ok p) at (read p next))
 unfolding word
 stricter ws k weak ok all at = by (wordAt ws at)
   where

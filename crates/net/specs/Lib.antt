@@ -1,2 +1,3 @@
 pub mod Skim
 pub mod Index
+pub mod Places
