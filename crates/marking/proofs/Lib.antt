@@ -1,0 +1,9 @@
+pub mod Valuing
+pub mod Comparing
+pub mod Entries
+pub mod Rising
+pub mod Ranked
+pub mod Blocks
+pub mod Found
+pub mod Bound
+pub mod First

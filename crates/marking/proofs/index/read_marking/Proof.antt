@@ -1,0 +1,97 @@
+-- `marking::index::read_marking` meets its contract: the loop of `Rising`.
+use mathlib.Core.Path.{refl}
+use Prim.Native.Nat.{_-_}
+use lib.ListN.{length}
+use Rattle.net.specs.Places.{placesAt}
+use Rattle.marking.proofs.Entries.{places-length}
+use Rattle.marking.proofs.Rising.{SoFar, so-far-start, entry-ends, marking-goes, indexing}
+use native.Mathlib.Omega.{arith}
+use borrow.Author.Needs.{needs}
+use Rattle.marking.proofs.index.read_marking.Statement.{statement}
+use Rattle.marking.proofs.index.read_marking.Tie as tie
+
+abbrev Inv-loop : tie.InvT-loop
+Inv-loop net places words begins₀ last₀ place₀ at₀ begins last place at = SoFar (placesAt net places) words begins last place at
+
+abbrev μ-loop : tie.MeasureT-loop
+μ-loop net places words begins₀ last₀ place₀ at₀ begins last place at = length words - at
+
+loop-holds : tie.Need-loop-holds Inv-loop μ-loop
+loop-holds c = so-far-start _ _ _ refl refl
+
+returns : tie.Need-returns Inv-loop μ-loop
+returns c = search indexing
+
+loop-again : tie.Need-loop-again Inv-loop μ-loop
+loop-again c =
+    let ends = entry-ends (c .before .before .before .before .before .before .before .before .before .before .loop .inv) (c .before .before .before .before .before .before .before .before .before .loop-test .taken) (c .before .before .before .before .before .before .before .before .read-entry .ensures) (c .before .before .before .before .before .before .p .given .1) in
+    let places = c .before .before .before .before .before .before .before .before .before .before .before .before .before .before .pre .few in
+    let inside = ends .2 in
+    marking-goes (c .before .before .before .before .before .before .before .before .before .before .loop .inv) (c .before .before .before .before .before .before .before .before .before .loop-test .taken) (c .before .before .before .before .before .before .before .before .read-entry .ensures) (c .before .before .before .before .before .before .p .given .1) (c .before .before .before .before .rises .ensures) (c .before .before .before .if1 .left) (search needs) (omega (arith, places-length (c .before .before .before .before .before .before .before .before .before .before .before .before .before .before .args .net .now) (c .before .before .before .before .before .before .before .before .before .before .before .before .before .before .args .places .now))) (c .before .begin-all .ensures)
+
+returns-2 : tie.Need-returns-2 Inv-loop μ-loop
+returns-2 c = search indexing
+
+returns-3 : tie.Need-returns-3 Inv-loop μ-loop
+returns-3 c = search indexing
+
+-- the entry ends after its first word, inside the words
+sub-rises : tie.Need-sub-rises Inv-loop μ-loop
+sub-rises c = let ends = entry-ends (c .before .before .before .before .before .loop .inv) (c .before .before .before .before .loop-test .taken) (c .before .before .before .read-entry .ensures) (c .before .p .given .1) in omega (arith, ends .0)
+
+sub-rises-2 : tie.Need-sub-rises-2 Inv-loop μ-loop
+sub-rises-2 c = let ends = entry-ends (c .before .before .before .before .before .loop .inv) (c .before .before .before .before .loop-test .taken) (c .before .before .before .read-entry .ensures) (c .before .p .given .1) in omega (arith, ends .0)
+
+rises-requires : tie.Need-rises-requires Inv-loop μ-loop
+rises-requires c κs =
+    let ends = entry-ends (c .before .before .before .before .before .loop .inv) (c .before .before .before .before .loop-test .taken) (c .before .before .before .read-entry .ensures) (c .before .p .given .1) in
+    let back = c .before .before .before .before .before .loop .inv .back in
+    (back, omega (arith, ends .0, ends .1))
+
+-- its place is one of at most 64
+begin-all-requires : tie.Need-begin-all-requires Inv-loop μ-loop
+begin-all-requires c κs =
+    let ends = entry-ends (c .before .before .before .before .before .before .before .before .loop .inv) (c .before .before .before .before .before .before .before .loop-test .taken) (c .before .before .before .before .before .before .read-entry .ensures) (c .before .before .before .before .p .given .1) in
+    let places = c .before .before .before .before .before .before .before .before .before .before .before .before .pre .few in
+    omega (arith, ends .2, places-length (c .before .before .before .before .before .before .before .before .before .before .before .before .args .net .now) (c .before .before .before .before .before .before .before .before .before .before .before .before .args .places .now))
+
+add-begin-all : tie.Need-add-begin-all Inv-loop μ-loop
+add-begin-all c = let few = c .before .before .before .before .before .before .before .before .loop .inv .few in omega arith
+
+add-begin-all-2 : tie.Need-add-begin-all-2 Inv-loop μ-loop
+add-begin-all-2 c =
+    let ends = entry-ends (c .before .before .before .before .before .before .before .before .loop .inv) (c .before .before .before .before .before .before .before .loop-test .taken) (c .before .before .before .before .before .before .read-entry .ensures) (c .before .before .before .before .p .given .1) in
+    let places = c .before .before .before .before .before .before .before .before .before .before .before .before .pre .few in
+    omega (arith, ends .2, places-length (c .before .before .before .before .before .before .before .before .before .before .before .before .args .net .now) (c .before .before .before .before .before .before .before .before .before .before .before .before .args .places .now))
+
+loop-less : tie.Need-loop-less Inv-loop μ-loop
+loop-less c = let ends = entry-ends (c .before .before .before .before .before .before .before .before .before .before .loop .inv) (c .before .before .before .before .before .before .before .before .before .loop-test .taken) (c .before .before .before .before .before .before .before .before .read-entry .ensures) (c .before .before .before .before .before .before .p .given .1) in omega (arith, ends .0, ends .1)
+
+add-begin-all-3 : tie.Need-add-begin-all-3 Inv-loop μ-loop
+add-begin-all-3 c = let few = c .before .before .loop .inv .few in omega arith
+
+pub read-marking-spec : {M : Type 1} → statement M
+read-marking-spec =
+    tie.close
+    (tie.spec
+    Inv-loop
+    μ-loop
+    loop-holds
+    (λ c κs. search needs)
+    (λ c. search needs)
+    sub-rises
+    sub-rises-2
+    rises-requires
+    returns
+    (λ c. search needs)
+    add-begin-all
+    add-begin-all-2
+    begin-all-requires
+    loop-less
+    loop-again
+    (λ c. search needs)
+    returns-2
+    (λ c. search needs)
+    add-begin-all-3
+    (λ c κs. search needs)
+    returns-3)

@@ -1,0 +1,54 @@
+-- `marking::order::colour_before` meets its contract: the loop of `Comparing` over words and a colour.
+use Prim.Native.Nat.{_-_}
+use lib.ListN.{length}
+use Rattle.semantics.specs.Order.{before}
+use Rattle.marking.proofs.Comparing.{ColourLeft, colour-start, colour-more, colour-turn, comparing}
+use native.Mathlib.Omega.{arith}
+use borrow.Author.Needs.{needs}
+use Rattle.marking.proofs.order.colour_before.Statement.{statement}
+use Rattle.marking.proofs.order.colour_before.Tie as tie
+
+abbrev Inv-loop : tie.InvT-loop
+Inv-loop words at colour i₀ i = ColourLeft before words at colour i
+
+abbrev μ-loop : tie.MeasureT-loop
+μ-loop words at colour i₀ i = length colour - i
+
+loop-holds : tie.Need-loop-holds Inv-loop μ-loop
+loop-holds c = colour-start _ _ _ _
+
+returns : tie.Need-returns Inv-loop μ-loop
+returns c = search comparing
+
+returns-2 : tie.Need-returns-2 Inv-loop μ-loop
+returns-2 c =
+    colour-more (c .before .before .before .before .before .before .before .before .loop .inv) (c .before .before .before .before .before .before .before .loop-test .taken) (search needs) (search needs) (c .before .before .before .less .ensures) (c .before .before .if1 .left) (c .before .equal .ensures) (c .if2 .taken)
+
+loop-again : tie.Need-loop-again Inv-loop μ-loop
+loop-again c =
+    colour-turn (c .before .before .before .before .before .before .before .before .loop .inv) (c .before .before .before .before .before .before .before .loop-test .taken) (search needs) (search needs) (c .before .before .before .less .ensures) (c .before .before .if1 .left) (c .before .equal .ensures) (c .if2 .left)
+
+returns-3 : tie.Need-returns-3 Inv-loop μ-loop
+returns-3 c = search comparing
+
+pub colour-before-spec : {M : Type 1} → statement M
+colour-before-spec =
+    tie.close
+    (tie.spec
+    Inv-loop
+    μ-loop
+    loop-holds
+    (λ c. omega arith)
+    (λ c. search needs)
+    (λ c. search needs)
+    (λ c κs. search needs)
+    (λ c. search needs)
+    (λ c. search needs)
+    (λ c κs. search needs)
+    returns
+    (λ c κs. search needs)
+    returns-2
+    (λ c. omega arith)
+    (λ c. omega arith)
+    loop-again
+    returns-3)

@@ -1,0 +1,114 @@
+-- What the code tells of a marking: values and entries where they stand, and where the entries of a place begin.
+-- Rests on semantics/specs/Marking.
+use mathlib.Core.Path.{_≡_}
+use Prim.Native.Nat.{ℕ, zero, suc, _+_, _≤_, _<_, _%_}
+use mathlib.Core.Bool.{Bool, true, cond, _&&_}
+use mathlib.Core.List.{List, [], _∷_}
+use lib.Dec.{leb, ltb, eqb}
+use lib.IntN.{ℤ, pos}
+use lib.ListN.{length, getD, take}
+use Rattle.semantics.specs.Refusal.{badMarking, badBinding}
+use Rattle.semantics.specs.Word.{bits, only, signed, Range, within}
+use Rattle.semantics.specs.Reading.{Reading, read, refused, then, valuesIn, ended, numbered}
+use Rattle.semantics.specs.Net.{Place, rangesAt}
+use Rattle.semantics.specs.Order.{before, Rising}
+use Rattle.semantics.specs.Marking.{Entry, key, readEntries, countsOf}
+use Rattle.expression.specs.declared.read.Skipped.{Skipped}
+use Rattle.expression.specs.declared.read.Skipped.the-variants.{Refused}
+use Rattle.expression.specs.Skip.{forget, skipped}
+use Rattle.marking.specs.declared.entry.EntryRead.{EntryRead}
+use Rattle.marking.specs.declared.entry.EntryRead.the-variants.{Entry as EntryAt, Refused as EntryRefused}
+use Rattle.marking.specs.declared.index.MarkingIndex.{MarkingIndex}
+use Rattle.marking.specs.declared.find.Spot.{Spot}
+
+-- the values of n VALUE words
+unfoldable pub valuesAt : List ℕ → ℕ → ℕ → List ℤ
+valuesAt ws zero at = []
+valuesAt ws (suc n) at = signed (getD ws at 0 % 16384) ∷ valuesAt ws n (at + 1)
+
+-- ── One entry ──
+
+-- the 28 bits of a VALUE word in a range
+abbrev pub valueIn : Range → ℕ → Bool
+valueIn r v = only 14 v && within r (signed v)
+
+-- the 28 bits of a TOKEN word on a net of so many places
+abbrev pub tokenIn : ℕ → ℕ → Bool
+tokenIn places w = only 22 w && ltb (bits 14 21 w) places && leb 1 (bits 0 13 w)
+
+abbrev pub entryPlace : Entry → ℕ
+entryPlace e = e .place
+
+-- the place of an entry that is read
+abbrev pub entryRead : EntryRead → Reading ℕ
+entryRead (EntryAt p next) = read p next
+entryRead (EntryRefused n q) = refused n q
+
+-- ── All entries ──
+
+-- refusal 7 by the places of a net
+unfoldable pub markingRead : List Place → List ℕ → Reading (List Entry)
+markingRead places ws = numbered badMarking (readEntries (length ws) places ws [] 0)
+
+-- the words of the entries with keys before a key: where that key's entry stands or would stand
+unfoldable pub positionOf : List Entry → List ℤ → ℕ
+positionOf [] k = 0
+positionOf (e ∷ es) k = cond (before (key (e .place) (e .colour)) k) (1 + length (e .colour)) 0 + positionOf es k
+
+-- where the entries of a place begin: those of lesser places stand before them
+abbrev pub beginOf : List Entry → ℕ → ℕ
+beginOf es p = positionOf es (pos p ∷ [])
+
+-- the numbers from one to another are a
+pub record Begun (l : List ℕ) (from to a : ℕ) (r : List ℕ) : Type 0 where
+  pub new : (p : ℕ) → from ≤ p → p < to → getD r p 0 ≡ a
+  pub old : (p : ℕ) → p < from → getD r p 0 ≡ getD l p 0
+
+-- "out of order": the entry at a position, with n components, against the one before it; the first has none before it
+abbrev pub risesAfter : List ℕ → ℕ → ℕ → ℕ → ℕ → ℕ → Bool
+risesAfter ws last place at p n = cond (eqb at 0) true (before (key place (valuesAt ws n (last + 1))) (key p (valuesAt ws n (at + 1))))
+
+pub record IsMarking (places : List Place) (ws : List ℕ) (r : MarkingIndex) : Type 0 where
+  pub same : skipped (r .end) ≡ forget (markingRead places ws)
+  pub begins : (es : List Entry) (next : ℕ) → markingRead places ws ≡ read es next → (p : ℕ) → p ≤ 64 → getD (r .begins) p 0 ≡ beginOf es p
+
+-- "m beyond its buffer, at the buffer's length; marking (in a run its words end at m)"
+pub record IsMarkingIn (places : List Place) (buffer : List ℕ) (m : ℕ) (r : MarkingIndex) : Type 0 where
+  pub beyond : length buffer < m → r .end ≡ Refused badMarking (length buffer)
+  pub within : m ≤ length buffer → IsMarking places (take m buffer) r
+
+-- ── Bindings ──
+
+-- refusal 8 by the ranges of a transition's variables
+unfoldable pub bindingRead : List Range → List ℕ → Reading (List ℤ)
+bindingRead rs ws = numbered badBinding (then (valuesIn ws rs 0) (λ b next. ended ws b next))
+
+-- ── One place's entries, where they stand ──
+
+-- k entries of a place, of n components each
+unfoldable pub blockAt : List ℕ → ℕ → ℕ → ℕ → ℕ → List Entry
+blockAt ws p n zero at = []
+blockAt ws p n (suc k) at = record { place = p; count = getD ws at 0 % 16384; colour = valuesAt ws n (at + 1) } ∷ blockAt ws p n k (at + (n + 1))
+
+-- their colours
+unfoldable pub coloursAt : List ℕ → ℕ → ℕ → ℕ → List (List ℤ)
+coloursAt ws n zero at = []
+coloursAt ws n (suc k) at = valuesAt ws n (at + 1) ∷ coloursAt ws n k (at + (n + 1))
+
+-- how many colours stand before one
+unfoldable pub rankOf : List (List ℤ) → List ℤ → ℕ
+rankOf [] c = 0
+rankOf (x ∷ xs) c = cond (before x c) 1 0 + rankOf xs c
+
+-- among rising colours, the number of those before a colour
+pub record IsRank (cs : List (List ℤ)) (c : List ℤ) (r : ℕ) : Type 0 where
+  pub inside : r ≤ length cs
+  pub rank : Rising (λ x. x) cs → r ≡ rankOf cs c
+
+-- the places' beginnings in a marking
+pub record Begins (es : List Entry) (begins : List ℕ) : Type 0 where
+  pub at : (p : ℕ) → p ≤ 64 → getD begins p 0 ≡ beginOf es p
+
+-- where the entry of a place and colour stands or would stand, and its count, in a marking with these beginnings
+pub record IsSpot (ws begins : List ℕ) (p : ℕ) (c : List ℤ) (r : Spot) : Type 0 where
+  pub found : (ps : List Place) (es : List Entry) (next : ℕ) → markingRead ps ws ≡ read es next → Begins es begins → length (rangesAt ps p) ≡ length c → (r .at ≡ positionOf es (key p c)) × (r .count ≡ countsOf es p c)

@@ -1,0 +1,17 @@
+// Markings, bindings and picks read from words, with refusals 6 to 9, and the counts of a marking found by bisection.
+// Each contract is one equation with a definition of semantics.
+
+// VALUE words held against the ranges of the net.
+pub mod values;
+// The order of entries and colours.
+pub mod order;
+// One entry of a marking.
+pub mod entry;
+// A whole marking: where the entries of each place begin.
+pub mod index;
+// The count of a colour.
+pub mod find;
+// Bindings.
+pub mod binding;
+// Picks.
+pub mod pick;
