@@ -8,6 +8,8 @@ pub mod bind;
 pub mod solve;
 // What an element binds, and where a plan is at fault.
 pub mod plan;
+// Nets that are accepted.
+pub mod accepted;
 // The call check.
 pub mod check;
 // The call split.

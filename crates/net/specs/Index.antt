@@ -77,6 +77,9 @@ placesRead n r = upTo (r .end) (zip (take n (r .at)) (take n (r .widths)))
 abbrev pub startsRead : ℕ → Starts → Reading (List ℕ)
 startsRead n r = upTo (r .end) (take n (r .at))
 
+-- the positions that the index of a net has
+abbrev pub outlinedNet : NetIndex → NetOutline
+outlinedNet r = record { places = zip (take (r .places) (r .«places_at»)) (take (r .places) (r .widths)); transitions = take (r .transitions) (r .«transitions_at») }
+
 abbrev pub netRead : NetIndex → Reading NetOutline
-netRead r =
-    upTo (r .end) (record { places = zip (take (r .places) (r .«places_at»)) (take (r .places) (r .widths)); transitions = take (r .transitions) (r .«transitions_at») })
+netRead r = upTo (r .end) (outlinedNet r)

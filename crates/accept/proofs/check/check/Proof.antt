@@ -1,108 +1,23 @@
 -- `accept::check::check` meets its contract: each return is a rule of `Checking`.
-use mathlib.Core.Path.{_≡_, sym, _∙_}
-use lib.ListN.{length, length-map}
-use lib.Seq.{length-take-le}
-use native.Mathlib.Omega.{arith}
-use Rattle.accept.proofs.Checking.{checked-refused, checked-left, checked-fault, checked-fit}
+use Rattle.accept.proofs.Checking.{checked-refused, checked-accepted}
 use borrow.Author.Needs.{needs}
 use Rattle.accept.proofs.check.check.Statement.{statement}
 use Rattle.accept.proofs.check.check.Tie as tie
-use Rattle.accept.proofs.check.check.Reads as reads
-use Rattle.accept.proofs.check.check.Lts as lts
-use Rattle.accept.proofs.plan.at_most.Reads as at-most-reads
-use Rattle.accept.proofs.plan.first_fault.Reads as first-fault-reads
-use Rattle.net.proofs.index.read_net.Reads as read-net-reads
 
-full : (c : tie.After-read-net) → length (c .read-net .result .«places_at») ≡ 64
-full c = sym (length-map (c .read-net .result .«places_at») _) ∙ c .read-net .ok .1 .1 .1 .1 .1 .0 .1 .0 .1
+accept-net-requires : tie.Need-accept-net-requires
+accept-net-requires c κs = search needs
 
-wide : (c : tie.After-read-net) → length (c .read-net .result .widths) ≡ 64
-wide c = sym (length-map (c .read-net .result .widths) _) ∙ c .read-net .ok .1 .1 .1 .1 .1 .1 .0 .1 .0 .1
-
-long : (c : tie.After-read-net) → length (c .read-net .result .«transitions_at») ≡ 64
-long c = sym (length-map (c .read-net .result .«transitions_at») _) ∙ c .read-net .ok .1 .1 .1 .1 .1 .1 .1 .0 .1 .0 .1
-
--- src/check.rt:15:9
-read-net-requires : tie.Need-read-net-requires
-read-net-requires c κs = search needs
-
--- src/check.rt:18:26
 enum-known-end : tie.Need-enum-known-end
 enum-known-end c = search needs
 
--- src/check.rt:19:23
-enum-known-end-2 : tie.Need-enum-known-end-2
-enum-known-end-2 c = search needs
-
--- src/check.rt:21:17
-returns : tie.Need-returns
-returns c = let rn = c .before .before .before .before in checked-left _ (rn .read-net .result) (rn .read-net .ensures) (full rn) (wide rn) (c .before .before .end2 .given .1) (c .if1 .taken)
-
--- src/check.rt:23:17
-at-most-requires : tie.Need-at-most-requires
-at-most-requires c κs = search needs
-
--- src/check.rt:24:17
-at-most-requires-2 : tie.Need-at-most-requires-2
-at-most-requires-2 c κs = search needs
-
--- src/check.rt:27:36
-array-share-prefix-widths : tie.Need-array-share-prefix-widths
-array-share-prefix-widths c = let rn = c .before .before .before .before .before .before .before .before in let w = wide rn in let e = c .before .before .before .at-most .ensures in omega arith
-
--- src/check.rt:27:36
-slice-aggregate-first-fault : tie.Need-slice-aggregate-first-fault
-slice-aggregate-first-fault c = let rn = c .before .before .before .before .before .before .before .before .before in let w = wide rn in let e = c .before .before .before .before .at-most .ensures in sym (length-take-le _ _ (omega arith))
-
--- src/check.rt:27:55
-array-share-prefix-begins : tie.Need-array-share-prefix-begins
-array-share-prefix-begins c = let rn = c .before .before .before .before .before .before .before .before .before in let w = long rn in let e = c .before .before .before .at-most2 .ensures in omega arith
-
--- src/check.rt:27:55
-slice-aggregate-first-fault-2 : tie.Need-slice-aggregate-first-fault-2
-slice-aggregate-first-fault-2 c = let rn = c .before .before .before .before .before .before .before .before .before .before in let w = long rn in let e = c .before .before .before .before .at-most2 .ensures in sym (length-take-le _ _ (omega arith))
-
--- src/check.rt:27:19
-first-fault-requires : tie.Need-first-fault-requires
-first-fault-requires c κs = search needs
-
--- src/check.rt:28:27
-enum-known-q : tie.Need-enum-known-q
-enum-known-q c = search needs
-
--- src/check.rt:29:35
 enum-told : tie.Need-enum-told
 enum-told c = search needs
 
--- src/check.rt:12:1
+returns : tie.Need-returns
+returns c = checked-refused (c .before .before .before .before .before .args .net .now) (c .before .before .before .accept-net .result) (c .before .before .before .accept-net .ensures) (c .before .end .given .1)
+
 returns-2 : tie.Need-returns-2
-returns-2 c = let rn = c .before .before .before in checked-refused _ (rn .read-net .result) (rn .read-net .ensures) (full rn) (wide rn) (c .before .end .given .1)
-
--- src/check.rt:12:1
-returns-3 : tie.Need-returns-3
-returns-3 c = let rn = c .before .before .before .before .before .before .before .before .before .before .before .before .before .before in checked-fault _ (rn .read-net .result) (rn .read-net .ensures) (full rn) (wide rn) (c .before .before .before .before .before .before .before .before .before .before .before .before .end2 .given .1) (long rn) _ _ (c .before .before .before .before .before .before .before .before .before .at-most .ensures) (c .before .before .before .before .before .before .before .before .at-most2 .ensures) (c .before .before .before .first-fault .result) (c .before .before .before .first-fault .ensures) (c .before .before .before .before .before .before .before .before .before .before .if1 .left) (c .before .q .given .1)
-
--- src/check.rt:12:1
-returns-4 : tie.Need-returns-4
-returns-4 c = let rn = c .before .before .before .before .before .before .before .before .before .before .before .before .before in checked-fit _ (rn .read-net .result) (rn .read-net .ensures) (full rn) (wide rn) (c .before .before .before .before .before .before .before .before .before .before .before .end2 .given .1) (long rn) _ _ (c .before .before .before .before .before .before .before .before .at-most .ensures) (c .before .before .before .before .before .before .before .at-most2 .ensures) (c .before .before .first-fault .result) (c .before .before .first-fault .ensures) (c .before .before .before .before .before .before .before .before .before .if1 .left) (c .enum-told .given .1)
+returns-2 c = checked-accepted (c .before .before .before .before .args .net .now) (c .before .before .accept-net .result) (c .before .before .accept-net .ensures) (c .enum-told .given .1)
 
 pub check-spec : {M : Type 1} → statement M
-check-spec =
-    tie.close
-    (tie.spec
-    read-net-requires
-    enum-known-end
-    enum-known-end-2
-    returns
-    at-most-requires
-    at-most-requires-2
-    array-share-prefix-widths
-    slice-aggregate-first-fault
-    array-share-prefix-begins
-    slice-aggregate-first-fault-2
-    first-fault-requires
-    enum-known-q
-    enum-told
-    returns-2
-    returns-3
-    returns-4)
+check-spec = tie.close (tie.spec accept-net-requires enum-known-end enum-told returns returns-2)
