@@ -1,0 +1,5 @@
+pub mod Evaluating
+pub mod Guarding
+pub mod Colours
+pub mod Flowing
+pub mod Reading

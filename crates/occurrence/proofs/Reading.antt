@@ -1,0 +1,56 @@
+-- What is told from positions is what semantics says of the transition: each arc and conjunct that was read stands at its position, so it is
+-- read there again. Rests on net/proofs/Located.
+use mathlib.Core.Path.{_≡_, refl, fun-ext}
+use Prim.Native.Nat.{ℕ, _<_}
+use mathlib.Core.List.{List, [], _∷_, map}
+use lib.IntN.{ℤ}
+use lib.Signed.{mag}
+use lib.ListN.{length}
+use Rattle.semantics.specs.Lists.{Every, every}
+use Rattle.semantics.specs.Word.{valueWord}
+use Rattle.semantics.specs.Expression.{houseTable, bound}
+use Rattle.semantics.specs.Reading.{read}
+use Rattle.semantics.specs.Net.{Place, Arc, Conjunct, Transition}
+use Rattle.semantics.specs.ReadNet.{readArc, readConjunct, readTransition}
+use Rattle.semantics.specs.Enabling.{holds, flows}
+use Rattle.expression.specs.Evaluate.{lent}
+use Rattle.expression.proofs.Laws.{lent-bound}
+use Rattle.net.specs.Places.{placesAt}
+use Rattle.net.proofs.Located.{At, transition-parts}
+use Rattle.occurrence.specs.Flow.{guardAt, flowsAt}
+
+-- ── Arcs and conjuncts at their positions ──
+
+module _ (ws bs : List ℕ) (v : ℕ) (l : length bs ≡ v) where
+  -- with the places at the positions ps
+  pub arcs-told : (ps : List ℕ) (places : List Place) → places ≡ placesAt ws ps → (as′ : List Arc) → Every (At (readArc ws places v) (λ (a : Arc). a .position)) as′ → flowsAt ws ps bs (map (λ (a : Arc). a .position) as′) ≡ flows houseTable (lent bs) as′
+  unfolding flowsAt flows
+  arcs-told ps places p [] h = refl
+  arcs-told ps places p (a ∷ as′) h =
+      let r : readArc ws (placesAt ws ps) (length bs) (a .position) ≡ read a (h .0 .next) = rw (l, ← p) (h .0 .reads) in
+      rw (r, arcs-told ps places p as′ (h .1))
+
+  pub conjuncts-told : (cs : List Conjunct) → Every (At (readConjunct ws v) (λ (c : Conjunct). c .position)) cs → guardAt ws bs (map (λ (c : Conjunct). c .position) cs) ≡ every (holds houseTable (lent bs)) cs
+  unfolding guardAt every
+  conjuncts-told [] h = refl
+  conjuncts-told (c ∷ cs) h =
+      let r : readConjunct ws (length bs) (c .position) ≡ read c (h .0 .next) = rw l (h .0 .reads) in
+      rw (r, conjuncts-told cs (h .1))
+
+-- ── A transition ──
+
+module _ (ws bs : List ℕ) (places : List Place) (at : ℕ) (t : Transition) (next : ℕ) (e : readTransition ws places at ≡ read t next) (l : length bs ≡ length (t .variables)) where
+  pub inputs-told : (ps : List ℕ) → places ≡ placesAt ws ps → flowsAt ws ps bs (map (λ (a : Arc). a .position) (t .inputs)) ≡ flows houseTable (lent bs) (t .inputs)
+  inputs-told ps p = arcs-told ws bs (length (t .variables)) l ps places p (t .inputs) (transition-parts ws places at t next e .inputs)
+
+  pub outputs-told : (ps : List ℕ) → places ≡ placesAt ws ps → flowsAt ws ps bs (map (λ (a : Arc). a .position) (t .outputs)) ≡ flows houseTable (lent bs) (t .outputs)
+  outputs-told ps p = arcs-told ws bs (length (t .variables)) l ps places p (t .outputs) (transition-parts ws places at t next e .outputs)
+
+  pub guard-told : guardAt ws bs (map (λ (c : Conjunct). c .position) (t .guard)) ≡ every (holds houseTable (lent bs)) (t .guard)
+  guard-told = conjuncts-told ws bs (length (t .variables)) l (t .guard) (transition-parts ws places at t next e .guard)
+
+-- ── Bindings ──
+
+-- the environment of a binding's VALUE words is the binding
+pub binding-lent : (bs : List ℕ) (b : List ℤ) → bs ≡ map valueWord b → Every (λ z. mag z < 8192) b → lent bs ≡ bound b
+binding-lent bs b e h = rw e (fun-ext (lent-bound b h))

@@ -1,0 +1,61 @@
+-- What the answers of src/ say of flows.
+-- Rests on Flow.
+use mathlib.Core.Path.{_≡_}
+use mathlib.Core.Bool.{true}
+use mathlib.Core.List.{List, map}
+use mathlib.Core.Option.{Option, none, some}
+use Prim.Native.Nat.{ℕ, _≤_, _<_}
+use lib.IntN.{ℤ}
+use lib.ListN.{length, getD, take}
+use Rattle.semantics.specs.Lists.{Every}
+use Rattle.semantics.specs.Expression.{given}
+use Rattle.semantics.specs.Enabling as enabling
+use Rattle.net.specs.Places.{widthAt}
+use Rattle.occurrence.specs.declared.flow.Components.{Components}
+use Rattle.occurrence.specs.declared.flow.Coefficient.{Coefficient}
+use Rattle.occurrence.specs.declared.flow.Coefficient.the-variants.{Tokens, Nothing}
+use Rattle.occurrence.specs.declared.flow.Flow.{Flow}
+use Rattle.occurrence.specs.declared.flow.FlowAt.{FlowAt}
+use Rattle.occurrence.specs.declared.flow.Flows.{Flows}
+use Rattle.occurrence.specs.Flow.{colourAt, flowAt, flowsAt}
+
+-- the first n components
+abbrev pub colourRead : ℕ → Components → Option (List ℤ)
+colourRead n r = given (r .some) (take n (r .colour))
+
+-- the values of n expressions from a position on
+pub record IsColour (ws bs : List ℕ) (n at : ℕ) (r : Components) : Type 0 where
+  pub same : colourRead n r ≡ colourAt ws bs n at
+  pub full : length (r .colour) ≡ 4
+
+abbrev pub coefficientRead : Coefficient → Option (ℕ × ℕ)
+coefficientRead (Tokens n next) = some (n, next)
+coefficientRead Nothing = none
+
+abbrev pub flowOf : Flow → enabling.Flow
+flowOf f = record { place = f .place; amount = f .amount; colour = take (f .width) (f .colour) }
+
+abbrev pub flowRead : FlowAt → Option enabling.Flow
+flowRead r = given (r .some) (flowOf (r .flow))
+
+abbrev pub flowsRead : Flows → Option (List enabling.Flow)
+flowsRead r = given (r .some) (map flowOf (take (r .n) (r .at)))
+
+-- a flow's place is one of those at ps, and it has as many components
+pub record FlowFits (ws ps : List ℕ) (f : Flow) : Type 0 where
+  pub there : f .place < length ps
+  pub width : f .width ≡ widthAt ws (getD ps (f .place) 0)
+  pub narrow : f .width ≤ 4
+  pub full : length (f .colour) ≡ 4
+
+-- the flow of the arc at a position
+pub record IsFlow (ws ps bs : List ℕ) (at : ℕ) (r : FlowAt) : Type 0 where
+  pub same : flowRead r ≡ flowAt ws ps bs at
+  pub fits : r .some ≡ true → FlowFits ws ps (r .flow)
+
+-- the flows of the arcs at positions, each of them fitting
+pub record IsFlows (ws ps bs ats : List ℕ) (r : Flows) : Type 0 where
+  pub same : flowsRead r ≡ flowsAt ws ps bs ats
+  pub few : r .n ≤ 8
+  pub all : r .some ≡ true → r .n ≡ length ats
+  pub fit : Every (FlowFits ws ps) (take (r .n) (r .at))
