@@ -26,6 +26,7 @@ use Rattle.net.specs.declared.take.Taken.the-variants.{Word, Refused as TakeRef
 use Rattle.net.specs.Skim.{changed, fitsKind}
 use Rattle.net.specs.Index.{IsTaken, Takes}
 use Rattle.net.specs.Places.{rangesFrom, widthAt, placeAt, placesAt, PlaceFits, PlacesFit}
+use Rattle.net.proofs.Placed.{places-length, ranges-at, fits-at}
 use Rattle.net.proofs.Structures.{stricter, word-refused, word-taken, next-fits}
 use Rattle.marking.specs.Marked.{valuesAt, valueIn, tokenIn, entryPlace}
 
@@ -78,35 +79,11 @@ values-stand ws (r ∷ rs) at c next e =
 
 -- ── Places by their numbers ──
 
-pub every-getD : {A : Type 0} (P : A → Type 0) (l : List A) (i : ℕ) (d : A) → Every P l → i < length l → P (getD l i d)
-every-getD P [] i d e h = absurd (omega arith)
-every-getD P (x ∷ xs) zero d e h = e .0
-every-getD P (x ∷ xs) (suc i) d e h = every-getD P xs i d (e .1) (omega arith)
-
--- the place with a number stands whole in the words
-pub place-fits : {nws ats : List ℕ} → PlacesFit nws ats → (i : ℕ) → i < length ats → PlaceFits nws (getD ats i 0)
-place-fits {nws} {ats} f i h = every-getD (PlaceFits nws) ats i 0 (f .each) h
-
 pub place-inside : {nws ats : List ℕ} {i : ℕ} → PlacesFit nws ats → i < length ats → getD ats i 0 < length nws
-place-inside {i = i} f h = let k = place-fits f i h .inside in omega arith
+place-inside {i = i} f h = let k = fits-at f i h .inside in omega arith
 
 pub place-room : {nws ats : List ℕ} {i n : ℕ} → PlacesFit nws ats → i < length ats → n ≡ widthAt nws (getD ats i 0) → getD ats i 0 + 1 + n ≤ length nws
-place-room {i = i} f h e = let k = place-fits f i h .inside in omega arith
-
-pub places-length : (nws ats : List ℕ) → length (placesAt nws ats) ≡ length ats
-unfolding placesAt
-places-length nws ats = length-map ats (placeAt nws)
-
-pub ranges-at : (nws ats : List ℕ) (i : ℕ) → i < length ats → rangesAt (placesAt nws ats) i ≡ rangesFrom nws (widthAt nws (getD ats i 0)) (getD ats i 0 + 1)
-unfolding placesAt
-ranges-at nws [] i h = absurd (omega arith)
-ranges-at nws (at ∷ ats) zero h = refl
-ranges-at nws (at ∷ ats) (suc i) h = ranges-at nws ats i (omega arith)
-
-pub ranges-length : (nws : List ℕ) (n at : ℕ) → length (rangesFrom nws n at) ≡ n
-unfolding rangesFrom
-ranges-length nws zero at = refl
-ranges-length nws (suc n) at = ap suc (ranges-length nws n (at + 1))
+place-room {i = i} f h e = let k = fits-at f i h .inside in omega arith
 
 -- ── An entry ──
 

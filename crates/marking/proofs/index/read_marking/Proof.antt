@@ -3,7 +3,7 @@ use mathlib.Core.Path.{refl}
 use Prim.Native.Nat.{_-_}
 use lib.ListN.{length}
 use Rattle.net.specs.Places.{placesAt}
-use Rattle.marking.proofs.Entries.{places-length}
+use Rattle.net.proofs.Placed.{places-length}
 use Rattle.marking.proofs.Rising.{SoFar, so-far-start, entry-ends, marking-goes, indexing}
 use native.Mathlib.Omega.{arith}
 use borrow.Author.Needs.{needs}
