@@ -3,3 +3,4 @@ pub mod Guarding
 pub mod Colours
 pub mod Flowing
 pub mod Reading
+pub mod Covering

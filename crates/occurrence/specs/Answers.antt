@@ -1,15 +1,21 @@
 -- What the answers of src/ say of flows.
--- Rests on Flow.
+-- Rests on Flow and marking/specs/Marked.
 use mathlib.Core.Path.{_≡_}
-use mathlib.Core.Bool.{true}
+use mathlib.Core.Bool.{Bool, true, _&&_}
 use mathlib.Core.List.{List, map}
 use mathlib.Core.Option.{Option, none, some}
 use Prim.Native.Nat.{ℕ, _≤_, _<_}
+use lib.Dec.{eqb}
 use lib.IntN.{ℤ}
 use lib.ListN.{length, getD, take}
 use Rattle.semantics.specs.Lists.{Every}
 use Rattle.semantics.specs.Expression.{given}
+use Rattle.semantics.specs.Reading.{read}
+use Rattle.semantics.specs.Net.{Place, rangesAt}
+use Rattle.semantics.specs.Order.{sameTuple}
+use Rattle.semantics.specs.Marking.{Entry, countsOf}
 use Rattle.semantics.specs.Enabling as enabling
+use Rattle.marking.specs.Marked.{markingRead, Begins}
 use Rattle.net.specs.Places.{widthAt}
 use Rattle.occurrence.specs.declared.flow.Components.{Components}
 use Rattle.occurrence.specs.declared.flow.Coefficient.{Coefficient}
@@ -59,3 +65,32 @@ pub record IsFlows (ws ps bs ats : List ℕ) (r : Flows) : Type 0 where
   pub few : r .n ≤ 8
   pub all : r .some ≡ true → r .n ≡ length ats
   pub fit : Every (FlowFits ws ps) (take (r .n) (r .at))
+
+-- ── Covering ──
+
+abbrev pub flowsOf : Flows → List enabling.Flow
+flowsOf r = map flowOf (take (r .n) (r .at))
+
+-- the test of `total`: a flow names the place and colour of another
+abbrev pub sameKey : enabling.Flow → enabling.Flow → Bool
+sameKey f g = eqb (f .place) (g .place) && sameTuple (f .colour) (g .colour)
+
+-- a flow on one of 64 places, of at most four components
+pub record FlowBounds (f : Flow) : Type 0 where
+  pub there : f .place < 64
+  pub narrow : f .width ≤ 4
+  pub full : length (f .colour) ≡ 4
+
+-- at most eight of them
+pub record FlowsFit (r : Flows) : Type 0 where
+  pub few : r .n ≤ 8
+  pub each : Every FlowBounds (take (r .n) (r .at))
+  pub room : length (r .at) ≡ 8
+
+-- the colour of a flow has as many components as its place
+abbrev pub Fitted : List Place → enabling.Flow → Type 0
+Fitted ps f = length (rangesAt ps (f .place)) ≡ length (f .colour)
+
+-- covered by the counts of a marking with these beginnings
+pub record IsCovered (flows : Flows) (ws begins : List ℕ) (r : Bool) : Type 0 where
+  pub covered : (ps : List Place) (es : List Entry) (next : ℕ) → markingRead ps ws ≡ read es next → Begins es begins → Every (Fitted ps) (flowsOf flows) → r ≡ enabling.covers (countsOf es) (flowsOf flows)
