@@ -38,7 +38,7 @@ use Rattle.expression.specs.Skip.{forget, skipped}
 use Rattle.accept.proofs.Fitness.{net-fault}
 
 -- the first n of a list that has m, by the lesser of the two
-take-least : {A : Type 0} (l : List A) (n m p : ℕ) → length l ≡ m → p ≡ min n m → take p l ≡ take n l
+pub take-least : {A : Type 0} (l : List A) (n m p : ℕ) → length l ≡ m → p ≡ min n m → take p l ≡ take n l
 take-least [] n m p h e = rw (take-nil p, take-nil n)
 take-least (x ∷ xs) zero m p h e =
     let d : p ≡ 0 = omega arith in

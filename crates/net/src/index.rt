@@ -24,7 +24,7 @@ pub struct TransitionIndex {
 }
 
 // A transition of which only the end is known.
-fn ending(end: Skipped) -> TransitionIndex
+pub fn ending(end: Skipped) -> TransitionIndex
     ensures { λ r. ⌜ r .end ≡ end ⌝ }
 {
     let none = [0usize; 8];

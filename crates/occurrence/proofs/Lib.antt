@@ -4,3 +4,5 @@ pub mod Colours
 pub mod Flowing
 pub mod Reading
 pub mod Covering
+pub mod Enabling
+pub mod Situations

@@ -16,14 +16,16 @@ use Rattle.semantics.specs.Order.{sameTuple}
 use Rattle.semantics.specs.Marking.{Entry, countsOf}
 use Rattle.semantics.specs.Enabling as enabling
 use Rattle.marking.specs.Marked.{markingRead, Begins}
-use Rattle.net.specs.Places.{widthAt}
+use Rattle.net.specs.declared.index.TransitionIndex.{TransitionIndex}
+use Rattle.net.specs.Index.{outlined}
+use Rattle.net.specs.Places.{widthAt, placesAt}
 use Rattle.occurrence.specs.declared.flow.Components.{Components}
 use Rattle.occurrence.specs.declared.flow.Coefficient.{Coefficient}
 use Rattle.occurrence.specs.declared.flow.Coefficient.the-variants.{Tokens, Nothing}
 use Rattle.occurrence.specs.declared.flow.Flow.{Flow}
 use Rattle.occurrence.specs.declared.flow.FlowAt.{FlowAt}
 use Rattle.occurrence.specs.declared.flow.Flows.{Flows}
-use Rattle.occurrence.specs.Flow.{colourAt, flowAt, flowsAt}
+use Rattle.occurrence.specs.Flow.{guardAt, colourAt, flowAt, flowsAt}
 
 -- the first n components
 abbrev pub colourRead : ℕ → Components → Option (List ℤ)
@@ -94,3 +96,9 @@ Fitted ps f = length (rangesAt ps (f .place)) ≡ length (f .colour)
 -- covered by the counts of a marking with these beginnings
 pub record IsCovered (flows : Flows) (ws begins : List ℕ) (r : Bool) : Type 0 where
   pub covered : (ps : List Place) (es : List Entry) (next : ℕ) → markingRead ps ws ≡ read es next → Begins es begins → Every (Fitted ps) (flowsOf flows) → r ≡ enabling.covers (countsOf es) (flowsOf flows)
+
+-- ── Enabling ──
+
+-- "A binding is enabled when ..", told from positions, in a marking with these beginnings
+pub record IsEnabledAt (ws ps : List ℕ) (t : TransitionIndex) (ms begins bs : List ℕ) (r : Bool) : Type 0 where
+  pub enabled : (places : List Place) → places ≡ placesAt ws ps → (es : List Entry) (next : ℕ) → markingRead places ms ≡ read es next → Begins es begins → r ≡ (guardAt ws bs (outlined t .guard) && enabling.coversAll (countsOf es) (flowsAt ws ps bs (outlined t .inputs)))

@@ -1,2 +1,3 @@
 pub mod Flow
 pub mod Answers
+pub mod Situation

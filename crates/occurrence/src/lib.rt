@@ -6,3 +6,9 @@ pub mod guard;
 pub mod flow;
 // Whether a marking covers flows.
 pub mod cover;
+// Whether a binding is enabled.
+pub mod enabled;
+// What the calls on a transition and a marking start from.
+pub mod situation;
+// The call test.
+pub mod test;

@@ -1,0 +1,161 @@
+-- The rules of a situation: net, then transition, then marking. Each is told by its index; what the indexes have is what semantics reads,
+-- since each structure stands at its position.
+use mathlib.Core.Path.{_≡_, refl, sym, ap, _∙_, subst}
+use mathlib.Core.Logic.{_⊎_, inl, inr}
+use Prim.Native.Nat.{ℕ, zero, suc, min, _+_, _≤_, _<_}
+use mathlib.Core.List.{List, [], _∷_, map}
+use mathlib.Core.Option.{Option, none, some}
+use native.Mathlib.Omega.{arith}
+use lib.ListN.{length, getD, getElem?, take, length-map, length-take}
+use lib.Seq.{getD-take}
+use Rattle.semantics.specs.Refusal.{noTransition, badMarking}
+use Rattle.semantics.specs.Lists.{Every}
+use Rattle.semantics.specs.Reading.{Reading, read, refused, then}
+use Rattle.semantics.specs.Net.{Place, Transition, Net}
+use Rattle.semantics.specs.ReadNet.{readNet, readTransition}
+use Rattle.semantics.specs.Plan.{acceptNet}
+use Rattle.semantics.specs.Marking.{Entry, readMarking, countsOf}
+use Rattle.semantics.specs.Calls.{Situation as Situated, existing, situation}
+use Rattle.semantics.proofs.Accepted.{accepted-read}
+use Rattle.semantics.proofs.Tests.{false-true}
+use Rattle.semantics.proofs.Members.{none-some, length-at}
+use Rattle.expression.specs.declared.read.Skipped.{Skipped}
+use Rattle.expression.specs.declared.read.Skipped.the-variants.{Next, Refused}
+use Rattle.expression.specs.Skip.{forget, skipped}
+use Rattle.net.specs.declared.index.NetIndex.{NetIndex}
+use Rattle.net.specs.declared.index.TransitionIndex.{TransitionIndex}
+use Rattle.net.specs.Skim.{changed, netOutline, width, skimNet, skimTransition}
+use Rattle.net.specs.Index.{netRead, transitionRead}
+use Rattle.net.specs.Places.{placesAt, PlacesFit}
+use Rattle.net.proofs.Skimming.{skim-net}
+use Rattle.net.proofs.Located.{At, net-transitions}
+use Rattle.net.proofs.Placed.{index-widths, index-transitions, index-placed, index-fits, index-outline}
+use Rattle.accept.proofs.Checking.{take-least, index-read, index-refused}
+use Rattle.marking.specs.declared.index.MarkingIndex.{MarkingIndex}
+use Rattle.marking.specs.Marked.{markingRead, Begins, IsMarking}
+use Rattle.occurrence.specs.declared.situation.Situation.{Situation}
+use Rattle.occurrence.specs.Situation.{Prepared, IsSituation}
+
+-- ── A transition by its number ──
+
+every-elem : {A : Type 0} (P : A → Type 0) (l : List A) (i : ℕ) (a : A) → Every P l → getElem? l i ≡ some a → P a
+every-elem P [] i a e h = none-some h
+every-elem P (x ∷ xs) zero a e h = let q : x ≡ a = cc in subst P q (e .0)
+every-elem P (x ∷ xs) (suc i) a e h = every-elem P xs i a (e .1) h
+
+position-elem : (ts : List Transition) (i : ℕ) (t : Transition) → getElem? ts i ≡ some t → getD (map (λ (t : Transition). t .position) ts) i 0 ≡ t .position
+position-elem [] i t h = none-some h
+position-elem (x ∷ xs) zero t h = let q : x ≡ t = cc in ap (λ (t : Transition). t .position) q
+position-elem (x ∷ xs) (suc i) t h = position-elem xs i t h
+
+past-elem : {A : Type 0} (l : List A) (i : ℕ) → length l ≤ i → getElem? l i ≡ none
+past-elem [] i h = refl
+past-elem (x ∷ xs) zero h = absurd (omega arith)
+past-elem (x ∷ xs) (suc i) h = past-elem xs i (omega arith)
+
+next-refused : {X : Type 0} {next n p : ℕ} → Next next ≡ Refused n p → X
+next-refused e = false-true (cc)
+
+marking-refused : (x : Reading (List Entry)) (s : Skipped) {n p : ℕ} → skipped s ≡ forget x → s ≡ Refused n p → x ≡ refused n p
+marking-refused (read es k) s {n} {p} e d = let a : refused n p ≡ read tt k = sym (ap skipped d) ∙ e in false-true (cc)
+marking-refused (refused m q) s {n} {p} e d = let a : refused n p ≡ refused m q = sym (ap skipped d) ∙ e in cc
+
+marking-read : (x : Reading (List Entry)) (s : Skipped) {n : ℕ} → skipped s ≡ forget x → s ≡ Next n → (es : List Entry) × (x ≡ read es n)
+marking-read (read es k) s {n} e d = let a : read tt n ≡ read tt k = sym (ap skipped d) ∙ e in (es, cc)
+marking-read (refused m q) s {n} e d = let a : read tt n ≡ refused m q = sym (ap skipped d) ∙ e in false-true (cc)
+
+-- ── By the answers of the code ──
+
+module _ (ws ms : List ℕ) (t : ℕ) (i : NetIndex) (x : netRead i ≡ changed netOutline (acceptNet ws)) where
+  pub net-unaccepted : {n p : ℕ} (s : Situation) → i .end ≡ Refused n p → s .end ≡ i .end → IsSituation ws t ms s
+  unfolding situation
+  net-unaccepted {n} {p} s e d = record {
+    refuses = λ m q g. let a : Refused m q ≡ Refused n p = sym g ∙ d ∙ e in let b : _≡_ {A = Reading Situated} (refused n p) (refused m q) = cc in rw (index-refused (acceptNet ws) i x e) b;
+    prepares = λ next g. let a : Next next ≡ Refused n p = sym g ∙ d ∙ e in next-refused a;
+  }
+
+  module _ {next : ℕ} (e : i .end ≡ Next next) (full : length (i .«places_at») ≡ 64) (wide : length (i .widths) ≡ 64) (long : length (i .«transitions_at») ≡ 64) {q : ℕ} (less : q ≡ min (i .transitions) 64) where
+    net : Net
+    net = index-read (acceptNet ws) i x e .0
+
+    is-accepted : acceptNet ws ≡ read net next
+    unfolding net
+    is-accepted = index-read (acceptNet ws) i x e .1
+
+    reads : readNet ws 0 ≡ read net next
+    reads = accepted-read ws net next is-accepted
+
+    skims : netRead i ≡ skimNet ws 0
+    skims = x ∙ ap (changed netOutline) (is-accepted ∙ sym reads) ∙ skim-net ws 0
+
+    positions : map (λ (t : Transition). t .position) (net .transitions) ≡ take q (i .«transitions_at»)
+    positions = sym (index-transitions ws i skims full wide net next reads) ∙ sym (take-least (i .«transitions_at») (i .transitions) 64 q long less)
+
+    many : length (net .transitions) ≡ q
+    many =
+        let l = sym (length-map (net .transitions) (λ (t : Transition). t .position)) ∙ ap length positions ∙ length-take q (i .«transitions_at») in
+        omega arith
+
+    pub places-fit : {p : ℕ} → p ≡ min (i .places) 64 → PlacesFit ws (take p (i .«places_at»))
+    places-fit {p} few = rw (take-least (i .«places_at») (i .places) 64 p full few) (index-fits ws i skims full wide net next reads)
+
+    pub transition-unknown : (s : Situation) → q ≤ t → s .end ≡ Refused noTransition 0 → IsSituation ws t ms s
+    unfolding situation
+    transition-unknown s h d = record {
+      refuses = λ m p g. let a : Refused m p ≡ Refused noTransition 0 = sym g ∙ d in let b : _≡_ {A = Reading Situated} (refused noTransition 0) (refused m p) = cc in rw (is-accepted, past-elem (net .transitions) t (omega (arith, many))) b;
+      prepares = λ n g. let a : Next n ≡ Refused noTransition 0 = sym g ∙ d in next-refused a;
+    }
+
+    module _ (h : t < q) {p : ℕ} (few : p ≡ min (i .places) 64) (j : TransitionIndex) (y : transitionRead j ≡ skimTransition ws (take p (i .widths)) (getD (i .«transitions_at») t 0)) (m : MarkingIndex) (z : IsMarking (placesAt ws (take p (i .«places_at»))) ms m) where
+      known : (tr : Transition) × (getElem? (net .transitions) t ≡ some tr)
+      known = length-at (net .transitions) t (omega (arith, many))
+
+      at-position : getD (i .«transitions_at») t 0 ≡ known .0 .position
+      at-position = sym (getD-take q (i .«transitions_at») t 0 h) ∙ ap (λ (l : List ℕ). getD l t 0) (sym positions) ∙ position-elem (net .transitions) t (known .0) (known .1)
+
+      stands : At (readTransition ws (net .places)) (λ (t : Transition). t .position) (known .0)
+      stands = every-elem (At (readTransition ws (net .places)) (λ (t : Transition). t .position)) (net .transitions) t (known .0) (net-transitions ws 0 net next reads) (known .1)
+
+      reads-transition : readTransition ws (net .places) (getD (i .«transitions_at») t 0) ≡ read (known .0) (stands .next)
+      reads-transition = rw at-position (stands .reads)
+
+      places-same : take p (i .«places_at») ≡ take (i .places) (i .«places_at»)
+      places-same = take-least (i .«places_at») (i .places) 64 p full few
+
+      placed : net .places ≡ placesAt ws (take p (i .«places_at»))
+      placed = rw places-same (index-placed ws i skims full wide net next reads)
+
+      widths-same : take p (i .widths) ≡ map width (net .places)
+      widths-same = take-least (i .widths) (i .places) 64 p wide few ∙ index-widths ws i skims full wide net next reads
+
+      pub told : (s : Situation) → s .end ≡ m .end → s .places ≡ p → s .«places_at» ≡ i .«places_at» → s .position ≡ getD (i .«transitions_at») t 0 → s .transition ≡ j → s .begins ≡ m .begins → IsSituation ws t ms s
+      unfolding situation readMarking markingRead
+      told s a b c d f g = record { refuses = stops; prepares = goes }
+        where
+          marking : skipped (m .end) ≡ forget (markingRead (net .places) ms)
+          marking = rw placed (z .same)
+
+          stops : (n o : ℕ) → s .end ≡ Refused n o → situation ws t ms ≡ refused n o
+          stops n o k = rw (is-accepted, known .1, marking-refused (markingRead (net .places) ms) (m .end) marking (sym a ∙ k))
+
+          goes : (n : ℕ) → s .end ≡ Next n → Prepared ws t ms s
+          goes n k = by (marking-read (markingRead (net .places) ms) (m .end) marking (sym a ∙ k))
+            where
+              by : (es : List Entry) × (markingRead (net .places) ms ≡ read es n) → Prepared ws t ms s
+              by (es, r) = record {
+                net = net;
+                whole = next;
+                transition = known .0;
+                after = stands .next;
+                entries = es;
+                end = n;
+                accepted = is-accepted;
+                few = omega (arith, few, b);
+                placed = rw (b, c) placed;
+                fits = rw (b, c, places-same) (index-fits ws i skims full wide net next reads);
+                there = rw d reads-transition;
+                outlines = rw f (index-outline ws (net .places) (getD (i .«transitions_at») t 0) j (rw widths-same at y) (known .0) (stands .next) reads-transition .0);
+                marked = r;
+                begins = record { at = λ o l. rw g (z .begins es n (rw placed at r) o l) };
+                same = rw (is-accepted, known .1, r);
+              }
