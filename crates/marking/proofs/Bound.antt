@@ -1,6 +1,6 @@
 -- The rules of reading a binding: its values, and nothing after them. A binding that is accepted is its values' words.
 use mathlib.Core.Path.{_≡_, refl, sym, ap, _∙_, subst}
-use Prim.Native.Nat.{ℕ, _+_, _≤_, _<_}
+use Prim.Native.Nat.{ℕ, zero, suc, _+_, _≤_, _<_}
 use mathlib.Core.Bool.{Bool, true, false}
 use mathlib.Core.List.{List, [], _∷_, _++_, map, append-nil}
 use borrow.Author.Needs.{needs}
@@ -8,11 +8,19 @@ use borrow.Author.Tests.{le-leb, lt-leb, leb-true}
 use native.Mathlib.Omega.{arith}
 use lib.Dec.{leb}
 use lib.IntN.{ℤ}
-use lib.ListN.{length, drop}
+use lib.Signed.{mag}
+use lib.ListN.{length, getD, drop, drop-of-length-le}
 use Rattle.semantics.specs.Refusal.{badBinding}
-use Rattle.semantics.specs.Word.{Range}
+use Rattle.semantics.specs.Lists.{Every}
+use Rattle.semantics.specs.Word.{bits, Range, within, valueWord}
+use Rattle.semantics.specs.Order.{inRanges}
 use Rattle.semantics.specs.Reading.{Reading, read, refused, then, demand, valuesIn, ended, numbered}
-use Rattle.semantics.proofs.Spans.{refused-read}
+use Rattle.semantics.proofs.Tests.{false-true, and-left, and-right}
+use Rattle.semantics.proofs.Words.{within-mag}
+use Rattle.semantics.proofs.Accepted.{signed-small}
+use Rattle.semantics.proofs.Spans.{refused-read, read-same, demand-read, numbered-read, then-read, values-read}
+use Rattle.word.specs.Fields.{rangeWord}
+use Rattle.net.specs.Places.{rangesFrom}
 use Rattle.expression.specs.declared.read.Skipped.{Skipped}
 use Rattle.expression.specs.declared.read.Skipped.the-variants.{Next, Refused}
 use Rattle.expression.specs.Skip.{forget, skipped}
@@ -43,3 +51,41 @@ module _ (rs : List Range) (ws : List ℕ) {r : Skipped} (x : skipped r ≡ forg
   binding-whole d h = let (b, e) = values d in rw (e, le-leb (length ws) _ h)
 
 pub ruleset binding = (needs, binding-refused, binding-long, binding-whole)
+
+-- ── A binding that is accepted ──
+
+pub record IsBinding (rs : List Range) (ws : List ℕ) (b : List ℤ) : Type 0 where
+  pub words : ws ≡ map valueWord b
+  pub ranged : inRanges rs b ≡ true
+
+pub binding-read : (rs : List Range) (ws : List ℕ) (b : List ℤ) (next : ℕ) → bindingRead rs ws ≡ read b next → IsBinding rs ws b
+unfolding bindingRead
+binding-read rs ws b next e =
+    let r = numbered-read badBinding (then (valuesIn ws rs 0) (λ b next. ended ws b next)) b next e in
+    then-read (valuesIn ws rs 0) (λ b next. ended ws b next) b next r λ c mid p q.
+    let d = demand-read (leb (length ws) mid) mid (read c mid) b next q in
+    let s = read-same c b mid next (d .1) in
+    let v = values-read ws rs 0 c mid p in
+    let h = leb-true (length ws) mid (d .0) in
+    let n : drop mid ws ≡ [] = drop-of-length-le ws h in
+    let w : ws ≡ map valueWord c = v .0 .split ∙ ap (λ (l : List ℕ). map valueWord c ++ l) n ∙ append-nil (map valueWord c) in
+    record { words = subst (λ (b : List ℤ). ws ≡ map valueWord b) (s .0) w; ranged = subst (λ (b : List ℤ). inRanges rs b ≡ true) (s .0) (v .1) }
+
+-- as many values as ranges
+pub ranged-length : (rs : List Range) (b : List ℤ) → inRanges rs b ≡ true → length b ≡ length rs
+unfolding inRanges
+ranged-length [] [] e = refl
+ranged-length [] (z ∷ zs) e = false-true e
+ranged-length (r ∷ rs) [] e = false-true e
+ranged-length (r ∷ rs) (z ∷ zs) e = ap suc (ranged-length rs zs (and-right (within r z) (inRanges rs zs) e))
+
+-- values in the ranges of RANGE words are values
+pub ranged-small : (nws : List ℕ) (n at : ℕ) (b : List ℤ) → inRanges (rangesFrom nws n at) b ≡ true → Every (λ z. mag z < 8192) b
+unfolding inRanges rangesFrom
+ranged-small nws zero at [] e = tt
+ranged-small nws zero at (z ∷ zs) e = false-true e
+ranged-small nws (suc n) at [] e = false-true e
+ranged-small nws (suc n) at (z ∷ zs) e =
+    let r = rangeWord (getD nws at 0) in
+    let w = and-left (within r z) (inRanges (rangesFrom nws n (at + 1)) zs) e in
+    (within-mag r z (signed-small (bits 14 27 (getD nws at 0)) (omega arith)) (signed-small (bits 0 13 (getD nws at 0)) (omega arith)) w, ranged-small nws n (at + 1) zs (and-right (within r z) (inRanges (rangesFrom nws n (at + 1)) zs) e))

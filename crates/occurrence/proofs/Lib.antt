@@ -6,3 +6,4 @@ pub mod Reading
 pub mod Covering
 pub mod Enabling
 pub mod Situations
+pub mod Testing
