@@ -1,0 +1,4 @@
+// Firing: the marking after a step, written from the marking before it. Each contract is one equation with a definition.
+
+// A marking's words with some counts set.
+pub mod patch;
