@@ -14,6 +14,7 @@ use Rattle.semantics.specs.Net.{Place, rangesAt}
 use Rattle.semantics.specs.Marking.{Entry, countsOf}
 use Rattle.semantics.specs.Enabling as enabling
 use Rattle.semantics.specs.Enabling.{covers, coversAll}
+use Rattle.semantics.proofs.Tests.{false-true}
 use Rattle.net.specs.declared.index.TransitionIndex.{TransitionIndex}
 use Rattle.net.specs.Index.{outlined}
 use Rattle.net.specs.Places.{placesAt, PlacesFit}
@@ -21,7 +22,7 @@ use Rattle.net.proofs.Placed.{width-at}
 use Rattle.occurrence.specs.declared.flow.Flow.{Flow}
 use Rattle.occurrence.specs.declared.flow.Flows.{Flows}
 use Rattle.occurrence.specs.Flow.{guardAt, flowsAt}
-use Rattle.occurrence.specs.Answers.{flowOf, flowsRead, flowsOf, FlowFits, IsFlows, FlowBounds, FlowsFit, Fitted, IsCovered, IsEnabledAt}
+use Rattle.occurrence.specs.Answers.{flowOf, flowsRead, flowsOf, FlowFits, IsFlows, FlowBounds, FlowsFit, Fitted, IsCovered, IsEnabledAt, IsTaken}
 use Rattle.occurrence.proofs.Covering.{colour-length}
 
 -- ── Flows that were told ──
@@ -71,3 +72,27 @@ module _ (ws ps : List ℕ) (t : TransitionIndex) (ms begins bs : List ℕ) {gs 
           let k : flowsAt ws ps bs (outlined t .inputs) ≡ some (flowsOf r) = ap (flowsAt ws ps bs) (sym j) ∙ flows-some f n in
           rw (guarded, k) (c .covered places es next m b (rw e (flows-fitted p f)));
     }
+
+-- ── What is taken ──
+
+module _ (ws ps : List ℕ) (t : TransitionIndex) (ms begins bs : List ℕ) where
+  none-taken : {r : Flows} → r .some ≡ false → IsEnabledAt ws ps t ms begins bs false → IsTaken ws ps t ms begins bs r
+  none-taken {r} e f = record { enabled = subst (IsEnabledAt ws ps t ms begins bs) (sym e) f; flows = λ d. false-true (sym e ∙ d) }
+
+  module _ {gs : List ℕ} (i : gs ≡ outlined t .guard) {g : Bool} (h : g ≡ guardAt ws bs gs) where
+    pub taken-unguarded : {r : Flows} → not g ≡ true → r .some ≡ false → IsTaken ws ps t ms begins bs r
+    taken-unguarded d e = none-taken e (enabled-unguarded ws ps t ms begins bs i h d)
+
+    module _ (d : not g ≡ false) {is : List ℕ} (j : is ≡ outlined t .inputs) {r : Flows} (f : IsFlows ws ps bs is r) where
+      pub taken-unmoved : {s : Flows} → not (r .some) ≡ true → s .some ≡ false → IsTaken ws ps t ms begins bs s
+      taken-unmoved n e = none-taken e (enabled-unmoved ws ps t ms begins bs i h d j f n)
+
+      module _ (n : not (r .some) ≡ false) (p : PlacesFit ws ps) {u : Bool} (c : IsCovered r ms begins u) where
+        pub taken-uncovered : {s : Flows} → not u ≡ true → s .some ≡ false → IsTaken ws ps t ms begins bs s
+        taken-uncovered k e = none-taken e (subst (IsEnabledAt ws ps t ms begins bs) (not-true u k) (enabled-covered ws ps t ms begins bs i h d j f n p c))
+
+        pub taken-covered : not u ≡ false → IsTaken ws ps t ms begins bs r
+        taken-covered k = record {
+          enabled = subst (IsEnabledAt ws ps t ms begins bs) (not-false u k ∙ sym (not-false (r .some) n)) (enabled-covered ws ps t ms begins bs i h d j f n p c);
+          flows = λ e. subst (λ (l : List ℕ). IsFlows ws ps bs l r) j f;
+        }

@@ -102,3 +102,8 @@ pub record IsCovered (flows : Flows) (ws begins : List ℕ) (r : Bool) : Type 0 
 -- "A binding is enabled when ..", told from positions, in a marking with these beginnings
 pub record IsEnabledAt (ws ps : List ℕ) (t : TransitionIndex) (ms begins bs : List ℕ) (r : Bool) : Type 0 where
   pub enabled : (places : List Place) → places ≡ placesAt ws ps → (es : List Entry) (next : ℕ) → markingRead places ms ≡ read es next → Begins es begins → r ≡ (guardAt ws bs (outlined t .guard) && enabling.coversAll (countsOf es) (flowsAt ws ps bs (outlined t .inputs)))
+
+-- what an enabled binding takes; none exactly where it is not enabled
+pub record IsTaken (ws ps : List ℕ) (t : TransitionIndex) (ms begins bs : List ℕ) (r : Flows) : Type 0 where
+  pub enabled : IsEnabledAt ws ps t ms begins bs (r .some)
+  pub flows : r .some ≡ true → IsFlows ws ps bs (outlined t .inputs) r

@@ -147,6 +147,19 @@ pub struct Flows {
     pub at: [Flow; 8],
 }
 
+// No flows.
+pub fn no_flows() -> Flows
+    ensures { λ r. ⌜ r .some ≡ false ⌝ }
+{
+    let none = no_flow();
+    let empty = none.flow;
+    Flows {
+        some: false,
+        n: 0,
+        at: [empty; 8],
+    }
+}
+
 // The flows of the arcs at these positions.
 pub fn flows_at(net: &[u32], places: &[usize], binding: &[u32], ats: &[usize]) -> Flows
     requires { ⌜ (PlacesFit (now net) (now places)) × (length (now ats) ≤ 8) ⌝ }
