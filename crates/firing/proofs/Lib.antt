@@ -1,2 +1,3 @@
 pub mod Patched
 pub mod Writing
+pub mod Fitting

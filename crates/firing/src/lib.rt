@@ -2,3 +2,5 @@
 
 // A marking's words with some counts set.
 pub mod patch;
+// Output colours held against the ranges of their places.
+pub mod fit;

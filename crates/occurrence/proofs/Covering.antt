@@ -117,7 +117,7 @@ flow-bounds {r} p i d h =
     every-at (x ∷ xs) (suc i) e h = every-at xs i (e .1) (omega arith)
 
 -- the flows from one on
-flow-next : {r : Flows} → FlowsFit r → {i : ℕ} → i < r .n → (d : Flow) → drop i (flowsOf r) ≡ flowOf (getD (r .at) i d) ∷ drop (i + 1) (flowsOf r)
+pub flow-next : {r : Flows} → FlowsFit r → {i : ℕ} → i < r .n → (d : Flow) → drop i (flowsOf r) ≡ flowOf (getD (r .at) i d) ∷ drop (i + 1) (flowsOf r)
 flow-next {r} p {i} h d =
     drop-cons (flowsOf r) i (flowOf d) (rw (flows-length p) h)
     ∙ ap (λ (x : enabling.Flow). x ∷ drop (suc i) (flowsOf r)) (flow-at p i d (flowOf d) h)

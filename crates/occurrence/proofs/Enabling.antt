@@ -27,10 +27,10 @@ use Rattle.occurrence.proofs.Covering.{colour-length}
 
 -- ── Flows that were told ──
 
-flow-bounded : {ws ps : List ℕ} {f : Flow} → PlacesFit ws ps → FlowFits ws ps f → FlowBounds f
+pub flow-bounded : {ws ps : List ℕ} {f : Flow} → PlacesFit ws ps → FlowFits ws ps f → FlowBounds f
 flow-bounded p f = let n = p .few in let t = f .there in record { there = omega arith; narrow = f .narrow; full = f .full }
 
-all-bounded : {ws ps : List ℕ} → PlacesFit ws ps → (l : List Flow) → Every (FlowFits ws ps) l → Every FlowBounds l
+pub all-bounded : {ws ps : List ℕ} → PlacesFit ws ps → (l : List Flow) → Every (FlowFits ws ps) l → Every FlowBounds l
 all-bounded p [] e = tt
 all-bounded p (f ∷ fs) e = (flow-bounded p (e .0), all-bounded p fs (e .1))
 
