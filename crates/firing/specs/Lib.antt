@@ -1,2 +1,4 @@
 pub mod Patch
 pub mod Fit
+pub mod Built
+pub mod Fire

@@ -4,3 +4,7 @@
 pub mod patch;
 // Output colours held against the ranges of their places.
 pub mod fit;
+// The counts that a step changes.
+pub mod change;
+// The call fire.
+pub mod fire;

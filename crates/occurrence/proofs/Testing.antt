@@ -62,9 +62,12 @@ module _ {ws : List ℕ} {t : ℕ} {ms : List ℕ} {s : Situation} (p : Prepared
     unfolding readBinding bindingRead
     binding-told = x ∙ ap (λ (rs : List Range). forget (bindingRead rs bs)) variables-same
 
+    pub unbound-refused : {n q : ℕ} → r ≡ Refused n q → readBinding (p .transition) bs ≡ refused n q
+    unbound-refused e = binding-stops (readBinding (p .transition) bs) r binding-told e
+
     pub test-unbound : {n q : ℕ} → r ≡ Refused n q → TestRefused n q ≡ testCall ws t ms bs
     unfolding testCall
-    test-unbound e = rw (p .same, binding-stops (readBinding (p .transition) bs) r binding-told e)
+    test-unbound e = rw (p .same, unbound-refused e)
 
     module _ {next : ℕ} (e : r ≡ Next next) where
       pub bound-read : (b : List ℤ) × (readBinding (p .transition) bs ≡ read b next)

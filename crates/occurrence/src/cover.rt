@@ -50,11 +50,11 @@ pub fn total_of(flows: Flows, f: Flow) -> u64
     ensures { λ r. ⌜ r ≡ total (flowsOf flows) (flowOf f .place) (flowOf f .colour) ⌝ }
 {
     let mut sum = 0u64;
-    let mut i = 0;
-    while i < flows.n {
-        let g = flows.at[i];
+    let mut j = 0;
+    while j < flows.n {
+        let g = flows.at[j];
         sum += amount_of(g, f) as u64;
-        i += 1;
+        j += 1;
     }
     sum
 }

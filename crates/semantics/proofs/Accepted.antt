@@ -221,6 +221,9 @@ module _ (ws : List ℕ) where
 pub read-sound : (ws : List ℕ) (at : ℕ) (net : Net) (next : ℕ) → readNet ws at ≡ read net next → SoundNet net
 read-sound ws at net next e = given (net-reads ws at) e .0
 
+pub transition-sound : (ws : List ℕ) (places : List Place) (at : ℕ) (t : Transition) (next : ℕ) → readTransition ws places at ≡ read t next → SoundTransition places t
+transition-sound ws places at t next e = given (transition-reads ws places at) e .0
+
 pub read-inside : (ws : List ℕ) (at : ℕ) (net : Net) (next : ℕ) → readNet ws at ≡ read net next → Inside ws at → Inside ws next
 read-inside ws at net next e = given (net-reads ws at) e .2
 

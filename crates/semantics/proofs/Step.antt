@@ -44,10 +44,10 @@ abbrev pub Limited : Counts → Type 0
 Limited m = (p : ℕ) (c : List ℤ) → m p c ≤ mostCount
 
 module _ (m : Counts) (ins outs : List Flow) where
-  within-all : Limited m → withinCounts m ins outs ≡ true → Limited (effect m ins outs)
+  pub within-all : Limited m → withinCounts m ins outs ≡ true → Limited (effect m ins outs)
   within-all limited e = at-named (λ p c. effect m ins outs p c ≤ mostCount) outs (λ f k. leb-true _ _ (every-at _ e k)) (λ p c z. omega (arith, limited p c))
 
-  all-within : Limited (effect m ins outs) → withinCounts m ins outs ≡ true
+  pub all-within : Limited (effect m ins outs) → withinCounts m ins outs ≡ true
   all-within h = every-of _ outs (λ f k. le-leb _ _ (h (f .place) (f .colour)))
 
 -- ── Occurrences ──

@@ -1,0 +1,61 @@
+-- The rules of the call fire: what the situation and the binding say; where both are accepted, they are what firing starts from.
+use mathlib.Core.Path.{_≡_, refl, sym, ap, _∙_}
+use Prim.Native.Nat.{ℕ, _+_, _<_}
+use mathlib.Core.List.{List, [], _∷_}
+use lib.IntN.{ℤ}
+use lib.ListN.{length, take}
+use Rattle.semantics.specs.declared.Fired.{Fired}
+use Rattle.semantics.specs.declared.Fired.the-variants.{Written, Refused as FireRefused}
+use Rattle.semantics.specs.Lists.{Every}
+use Rattle.semantics.specs.Expression.{houseTable}
+use Rattle.semantics.specs.Reading.{read}
+use Rattle.semantics.specs.Net.{Place, Arc}
+use Rattle.semantics.specs.Marking.{readBinding}
+use Rattle.semantics.specs.Calls.{fireCall}
+use Rattle.semantics.proofs.Accepted.{SoundArc, transition-sound}
+use Rattle.expression.specs.declared.read.Skipped.{Skipped}
+use Rattle.expression.specs.declared.read.Skipped.the-variants.{Next, Refused}
+use Rattle.expression.specs.Skip.{forget, skipped}
+use Rattle.net.specs.Places.{rangesFrom}
+use Rattle.marking.specs.Marked.{bindingRead}
+use Rattle.occurrence.specs.declared.situation.Situation.{Situation}
+use Rattle.occurrence.specs.Situation.{Prepared, IsSituation}
+use Rattle.occurrence.proofs.Testing.{unbound-refused, bound-read, bound-length, bound-lent}
+use Rattle.firing.specs.Fire.{Fireable, fireEnd, IsFired}
+
+pub fire-refused : (ws : List ℕ) (t : ℕ) (ms bs buffer : List ℕ) {s : Situation} {n p : ℕ} → IsSituation ws t ms s → s .end ≡ Refused n p → fireEnd (FireRefused n p) buffer ≡ fireCall ws t ms bs buffer
+unfolding fireCall
+fire-refused ws t ms bs buffer {n = n} {p = p} i e = rw (i .refuses n p e)
+
+placed-arcs : (places : List Place) (v : ℕ) (as′ : List Arc) → Every (SoundArc places v) as′ → Every (λ (a : Arc). a .place < length places) as′
+placed-arcs places v [] e = tt
+placed-arcs places v (a ∷ as′) e = (e .0 .there, placed-arcs places v as′ (e .1))
+
+module _ {ws : List ℕ} {t : ℕ} {ms : List ℕ} {s : Situation} (p : Prepared ws t ms s) (bs : List ℕ) (r : Skipped) (x : skipped r ≡ forget (bindingRead (rangesFrom ws (s .transition .variables) (s .position + 1)) bs)) where
+  pub fire-unbound : (buffer : List ℕ) {n q : ℕ} → r ≡ Refused n q → fireEnd (FireRefused n q) buffer ≡ fireCall ws t ms bs buffer
+  unfolding fireCall
+  fire-unbound buffer e = rw (p .same, unbound-refused p bs r x e)
+
+  module _ {next : ℕ} (e : r ≡ Next next) where
+    pub fireable : Fireable ws (take (s .places) (s .«places_at»)) (s .transition) ms (s .begins) bs
+    fireable = record {
+      net = p .net;
+      at = s .position;
+      transition = p .transition;
+      after = p .after;
+      entries = p .entries;
+      end = p .end;
+      binding = bound-read p bs r x e .0;
+      placed = p .placed;
+      there = p .there;
+      outlines = p .outlines;
+      outputs = placed-arcs (p .net .places) (length (p .transition .variables)) (p .transition .outputs) (transition-sound ws (p .net .places) (s .position) (p .transition) (p .after) (p .there) .outputs);
+      marked = p .marked;
+      begun = p .begins;
+      many = bound-length p bs r x e;
+      values = bound-lent p bs r x e;
+    }
+
+    pub fire-answers : {f : Fired} {buffer after : List ℕ} → IsFired ws (take (s .places) (s .«places_at»)) (s .transition) ms (s .begins) bs buffer f after → fireEnd f after ≡ fireCall ws t ms bs buffer
+    unfolding fireCall fireable
+    fire-answers g = rw (p .same, bound-read p bs r x e .1) (g .fired fireable)
