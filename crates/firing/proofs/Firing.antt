@@ -26,7 +26,7 @@ use Rattle.semantics.proofs.Tests.{false-true, either, not-both, and-left, and-
 use Rattle.semantics.proofs.Spans.{numbered-read}
 use Rattle.semantics.proofs.Entries.{counts-proper}
 use Rattle.semantics.proofs.ReadEntries.{entries-read}
-use Rattle.semantics.proofs.Markings.{total-some, step-proper}
+use Rattle.semantics.proofs.Markings.{step-proper}
 use Rattle.semantics.proofs.Step.{Limited, within-all, all-within, occurs-step}
 use Rattle.semantics.proofs.Members.{none-some}
 use Rattle.net.specs.declared.index.TransitionIndex.{TransitionIndex}
@@ -42,9 +42,10 @@ use Rattle.occurrence.proofs.Reading.{inputs-told, outputs-told, guard-told}
 use Rattle.firing.specs.declared.change.Built.{Built}
 use Rattle.firing.specs.Patch.{Change, changeKey, patched, Told, Untouched, Changing, changesOf, InOrder, Ready}
 use Rattle.firing.specs.Fit.{fitsAt, deliveredBy, IsGiven}
-use Rattle.firing.specs.Built.{within, Touched, BuiltFrom, IsBuilt}
+use Rattle.firing.specs.Built.{within, BuiltFrom, IsBuilt}
 use Rattle.firing.specs.Fire.{Fireable, fireEnd, IsFired}
 use Rattle.firing.proofs.Patched.{patched-words, patched-ordered}
+use Rattle.firing.proofs.Building.{untouched-same}
 
 -- the counts of a marking that was read
 marking-counts : (net : Net) (ms : List ℕ) (es : List Entry) (next : ℕ) → markingRead (net .places) ms ≡ read es next → Proper net (countsOf es)
@@ -191,22 +192,11 @@ module _ {ws ps : List ℕ} {t : TransitionIndex} {ms begins bs : List ℕ} (q :
                   let (s, same) = occurs-step houseTable (q .net) (q .transition) (countsOf (q .entries)) (q .binding) limited (effect (countsOf (q .entries)) (flowsOf ins) (flowsOf outs)) moves in
                   subst (Proper (q .net)) (sym same) (step-proper houseTable (q .net) (q .transition) (countsOf (q .entries)) (q .binding) (marking-counts (q .net) ms (q .entries) (q .end) (q .marked)) (λ a j. Every-at (λ (a : Arc). a .place < length (q .net .places)) (q .outputs) j) s)
 
-              -- a key of no change is moved by no flow
-              untouched : (fs : List Flow) → Every (Touched (changesOf (built .changes))) fs → (p : ℕ) (c : List ℤ) → Untouched (changesOf (built .changes)) (key p c) → total fs p c ≡ 0
-              untouched fs h p c u = by (total fs p c) refl
-                where
-                  by : (m : ℕ) → total fs p c ≡ m → m ≡ 0
-                  by zero g = refl
-                  by (suc m) g =
-                      let (f, j, a, b, d) = total-some fs p c (omega arith) in
-                      let (x, y, z) = Every-at (Touched (changesOf (built .changes))) h j in
-                      absurd (u x y (z ∙ ap (λ (n : ℕ). key n (f .colour)) a ∙ ap (key p) b))
-
               changing : Changing (q .net) (q .entries) (effect (countsOf (q .entries)) (flowsOf ins) (flowsOf outs)) (changesOf (built .changes))
               changing = record {
                 rises = told-by .rises e;
                 told = told-by .told e;
-                kept = λ p c u. let a = untouched (flowsOf ins) (told-by .taken e) p c u in let b = untouched (flowsOf outs) (told-by .made e) p c u in omega arith;
+                kept = λ p c u. untouched-same told-by e p c u;
                 proper = new-proper;
               }
 
