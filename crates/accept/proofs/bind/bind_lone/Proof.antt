@@ -1,3 +1,4 @@
+-- `accept::bind::bind_lone` meets its contract: the rules of `Binding`.
 use mathlib.Core.Path.{_≡_, sym, _∙_}
 use lib.ListN.{length, length-map}
 use native.Mathlib.Omega.{arith}

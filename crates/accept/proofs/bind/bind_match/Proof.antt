@@ -1,3 +1,4 @@
+-- `accept::bind::bind_match` meets its contract: the rules of `Binding`.
 use borrow.Author.Needs.{needs}
 use Rattle.accept.proofs.Binding.{binding}
 use Rattle.accept.proofs.bind.bind_match.Statement.{statement}

@@ -1,3 +1,4 @@
+-- `accept::element::element_of` meets its contract.
 use borrow.Author.Needs.{needs}
 use Rattle.word.proofs.Words.{bits-low}
 use Rattle.net.proofs.Taking.{tests}

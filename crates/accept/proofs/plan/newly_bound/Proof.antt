@@ -1,3 +1,4 @@
+-- `accept::plan::newly_bound` meets its contract: one arm for each sort of element.
 use mathlib.Core.Path.{_≡_, sym, _∙_}
 use lib.ListN.{length, length-map}
 use native.Mathlib.Omega.{arith}

@@ -1,3 +1,4 @@
+-- `net::skim::skip_one` meets its contract: the rules of `Structures`, one for each kind.
 use borrow.Author.Needs.{needs}
 use Rattle.net.proofs.Structures.{passing}
 use Rattle.net.proofs.skim.skip_one.Statement.{statement}
