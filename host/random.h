@@ -1,0 +1,36 @@
+/* Random nets, markings and bindings, good ones and damaged ones, from a seed. */
+#ifndef RANDOM_H
+#define RANDOM_H
+
+#include "reference.h"
+
+#include <stddef.h>
+#include <stdint.h>
+
+enum { ROOM = 3 * MOST_WORDS };
+
+/* words, up to ROOM of them */
+struct words {
+    size_t length;
+    uint32_t at[ROOM];
+};
+
+void random_seed(uint64_t seed);
+uint64_t random_below(uint64_t n);
+
+/* a good net; a large one is longer than 16,384 words now and then */
+void random_net(struct words *net, int large);
+
+/* a good net of exactly so many words, 4,675 to 47,683 */
+void sized_net(struct words *net, size_t length);
+
+/* a good binding, and a marking with the colours that it takes, many times just enough of them */
+void random_situation(const struct net *net, unsigned transition, struct words *marking, struct words *binding);
+
+/* a marking of about so many words with colours of the net's places, if these have enough */
+void random_marking(const struct net *net, size_t words, struct words *marking);
+
+/* a word changed, dropped or added, a bit flipped, the end cut off or words put after it */
+void damage(struct words *w);
+
+#endif
