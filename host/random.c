@@ -275,6 +275,20 @@ void random_situation(const struct net *net, unsigned transition, struct words *
     push_entries(net, es, n, marking);
 }
 
+void long_situation(struct words *net, struct words *marking, struct words *binding) {
+    int32_t entries = MOST_ENTRIES - random_between(0, 2) + random_between(0, 2);
+    const uint32_t words[] = {0x10000101u, 0x20000001u, 0x38001FFFu, 0x40010111u, 0x38001FFFu, 0x50000000u, constant(1), 0x80000000u,
+                              0x50000000u, constant(random_between(1, 3)), constant(random_between(8000, 8191)), 0xA0000200u};
+    net->length = marking->length = binding->length = 0;
+    for (size_t i = 0; i < sizeof words / sizeof words[0]; i++) push(net, words[i]);
+    for (int32_t i = 0; i < entries; i++) {
+        push(marking, ref_token_word(0, (unsigned)random_between(1, 3)));
+        push(marking, ref_value_word(i - 8192));
+    }
+    if (one_in(3)) marking->length--;
+    push(binding, ref_value_word(random_between(-8192, 10)));
+}
+
 /* ── Damage ── */
 
 /* a word of some kind with fields that are small or not */
@@ -304,5 +318,29 @@ void damage(struct words *w) {
         w->at[at] = random_word();
         w->length++;
         break;
+    }
+}
+
+void damage_plan(struct words *net) {
+    size_t elements = 0, at = 0, which;
+    uint32_t word;
+    for (size_t i = 0; i < net->length; i++) elements += net->at[i] >> 28 == 0xA;
+    if (elements == 0) return;
+    which = random_below(elements);
+    for (; net->at[at] >> 28 != 0xA || which > 0; at++) which -= net->at[at] >> 28 == 0xA;
+    switch (random_below(4)) {
+    case 0: /* left out: one less in its TRANSITION */
+        memmove(&net->at[at], &net->at[at + 1], (net->length - at - 1) * sizeof net->at[0]);
+        net->length--;
+        while (net->at[at - 1] >> 28 != 4) at--;
+        net->at[at - 1] -= 0x10000u;
+        break;
+    case 1: /* put after the next one, if that is an element */
+        if (at + 1 == net->length || net->at[at + 1] >> 28 != 0xA) break;
+        word = net->at[at];
+        net->at[at] = net->at[at + 1];
+        net->at[at + 1] = word;
+        break;
+    default: net->at[at] = 0xA0000000u | (uint32_t)random_below(3) << 8 | (uint32_t)(one_in(8) ? random_below(256) : random_below(9)); break;
     }
 }

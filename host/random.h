@@ -30,7 +30,13 @@ void random_situation(const struct net *net, unsigned transition, struct words *
 /* a marking of about so many words with colours of the net's places, if these have enough */
 void random_marking(const struct net *net, size_t words, struct words *marking);
 
+/* a net of one place with all values, a marking of about 16,384 words, and a binding that moves a token to a colour that has none */
+void long_situation(struct words *net, struct words *marking, struct words *binding);
+
 /* a word changed, dropped or added, a bit flipped, the end cut off or words put after it */
 void damage(struct words *w);
+
+/* an element of a plan of a good net changed, put later or left out */
+void damage_plan(struct words *net);
 
 #endif
