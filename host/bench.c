@@ -48,11 +48,8 @@ static void reference_check_bytes(void) {
     sink += r.number + r.position;
 }
 
-#if defined(GIMLETLEMON_HAS_TEST) || defined(GIMLETLEMON_HAS_FIRE)
 static struct words marking, binding;
-#endif
 
-#ifdef GIMLETLEMON_HAS_TEST
 static void library_test(void) {
     uint64_t enabled, position;
     sink += gimletlemon_test(net->at, net->length, 0, marking.at, marking.length, binding.at, binding.length, &enabled, &position) + enabled + position;
@@ -63,7 +60,6 @@ static void reference_test(void) {
     struct refusal r = ref_test(net->at, net->length, 0, marking.at, marking.length, binding.at, binding.length, &enabled);
     sink += r.number + r.position + enabled;
 }
-#endif
 
 #ifdef GIMLETLEMON_HAS_FIRE
 static uint32_t next[MOST_WORDS];
@@ -117,7 +113,6 @@ int main(void) {
     compare("check, a net of 16,384 words", 5000, library_check, reference_check);
     compare("check on bytes, a net of 16,384 words", 5000, library_check_bytes, reference_check_bytes);
 
-#ifdef GIMLETLEMON_HAS_TEST
     net = &example_net;
     marking.length = binding.length = 2;
     marking.at[0] = 0xB0000014;
@@ -125,7 +120,6 @@ int main(void) {
     binding.at[0] = 0xC000000C;
     binding.at[1] = 0xC0000008;
     compare("test, example a", 1000000, library_test, reference_test);
-#endif
 
 #ifdef GIMLETLEMON_HAS_FIRE
     static struct words moving;

@@ -14,11 +14,9 @@ static const uint32_t net[] = {
     0xA0000200, 0xA0000201                          /* plan: range 0, range 1 */
 };
 
-#define WORDS(a) (sizeof(a) / sizeof(a)[0])
-
-#if defined(GIMLETLEMON_HAS_TEST) || defined(GIMLETLEMON_HAS_FIRE)
 static const uint32_t marking[] = {0xB0000014, 0xC0000000}; /* twenty tokens of colour (0) on place 0 */
-#endif
+
+#define WORDS(a) (sizeof(a) / sizeof(a)[0])
 
 int main(void) {
     uint64_t position, rest;
@@ -36,14 +34,12 @@ int main(void) {
     refusal = gimletlemon_split(net, WORDS(net), &rest, &position);
     printf("split: refusal %" PRIu32 ", %zu words, %" PRIu64 " of them the net\n", refusal, WORDS(net), rest);
 
-#ifdef GIMLETLEMON_HAS_TEST
     for (uint32_t second = 8; second <= 9; second++) {
         const uint32_t binding[] = {0xC000000C, 0xC0000000 | second};
         uint64_t enabled;
         refusal = gimletlemon_test(net, WORDS(net), 0, marking, WORDS(marking), binding, WORDS(binding), &enabled, &position);
         printf("(12, %" PRIu32 "): refusal %" PRIu32 ", %s\n", second, refusal, enabled ? "enabled" : "not enabled");
     }
-#endif
 
 #ifdef GIMLETLEMON_HAS_FIRE
     const uint32_t binding[] = {0xC000000B, 0xC0000008};

@@ -79,7 +79,6 @@ uint32_t gimletlemon_check_bytes(const uint8_t *net, size_t net_length, uint64_t
  */
 uint32_t gimletlemon_split(const uint32_t *words, size_t length, uint64_t *rest, uint64_t *position);
 
-#ifdef GIMLETLEMON_HAS_TEST
 /*
  * Whether a binding of a transition is enabled in a marking. Returns 0 or a refusal from 1 to 8, and writes the answer and the position.
  *
@@ -99,7 +98,6 @@ uint32_t gimletlemon_test(const uint32_t *net, size_t net_length, uint32_t trans
  */
 uint32_t gimletlemon_test_bytes(const uint8_t *net, size_t net_length, uint32_t transition, const uint8_t *marking, size_t marking_length,
                                 const uint8_t *binding, size_t binding_length, uint64_t *enabled, uint64_t *position);
-#endif
 
 #ifdef GIMLETLEMON_HAS_FIRE
 /*

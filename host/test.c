@@ -140,7 +140,6 @@ static void try_net(const struct words *net) {
 
 /* ── Test and fire ── */
 
-#if defined(GIMLETLEMON_HAS_TEST) || defined(GIMLETLEMON_HAS_FIRE)
 static void fail_situation(const struct words *net, uint32_t transition, const struct words *marking, const struct words *binding) {
     printf("transition %" PRIu32 "\n", transition);
     print_words("marking", marking->at, marking->length);
@@ -149,9 +148,7 @@ static void fail_situation(const struct words *net, uint32_t transition, const s
 }
 
 static int kept(const void *lent, const void *was, size_t size) { return size == 0 || memcmp(lent, was, size) == 0; }
-#endif
 
-#ifdef GIMLETLEMON_HAS_TEST
 static void try_test(const struct words *net, uint32_t transition, const struct words *marking, const struct words *binding) {
     static uint8_t net_bytes[4 * ROOM + 4], marking_bytes[4 * ROOM + 4], binding_bytes[4 * ROOM + 4];
     struct answer library = {{0, unwritten}, unwritten}, reference = {{0, 0}, 0};
@@ -184,7 +181,6 @@ static void try_test(const struct words *net, uint32_t transition, const struct 
         fail_situation(net, transition, marking, binding);
     }
 }
-#endif
 
 #ifdef GIMLETLEMON_HAS_FIRE
 static void try_fire(const struct words *net, uint32_t transition, const struct words *marking, const struct words *binding) {
@@ -197,14 +193,16 @@ static void try_fire(const struct words *net, uint32_t transition, const struct 
     memcpy(after, before, 4 * room);
     uint32_t *n = place(&net_buffer, net->at, 4 * net->length), *m = place(&marking_buffer, marking->at, 4 * marking->length);
     uint32_t *b = place(&binding_buffer, binding->at, 4 * binding->length), *next = place(&next_buffer, before, 4 * room);
-    memset(next_buffer.base, 0x5A, 64);
+    uint8_t fence[64], *front = (uint8_t *)next - sizeof fence; /* what stands before the buffer */
+    memset(fence, 0x5A, sizeof fence);
+    memcpy(front, fence, sizeof fence);
     library.refusal.number = gimletlemon_fire(n, net->length, transition, m, marking->length, b, binding->length, next, room, &library.number, &library.refusal.position);
     reference.refusal = ref_fire(net->at, net->length, transition, marking->at, marking->length, binding->at, binding->length, after, room, &reference.number);
     if (!agree(FIRE, library, reference)) {
         printf("room %zu\n", room);
         fail_situation(net, transition, marking, binding);
     }
-    if (!kept(next, after, 4 * room)) {
+    if (!kept(next, after, 4 * room) || !kept(front, fence, sizeof fence)) {
         differs(FIRE, "the buffer", library, reference);
         print_words("library's buffer", next, room);
         print_words("reference's buffer", after, room);
@@ -218,13 +216,10 @@ static void try_fire(const struct words *net, uint32_t transition, const struct 
 #endif
 
 static void try_situation(const struct words *net, uint32_t transition, const struct words *marking, const struct words *binding) {
-#ifdef GIMLETLEMON_HAS_TEST
     try_test(net, transition, marking, binding);
-#endif
 #ifdef GIMLETLEMON_HAS_FIRE
     try_fire(net, transition, marking, binding);
 #endif
-    (void)net, (void)transition, (void)marking, (void)binding;
 }
 
 /* ── Rounds ── */

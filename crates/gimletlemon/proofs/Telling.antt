@@ -71,10 +71,13 @@ module _ (net marking binding : List ℕ) (t : ℕ) where
   unfolding testBytesCall
   test-refused-binding y z h = rw (eq-eqb (length net % 4) 0 y, eq-eqb (length marking % 4) 0 z, ne-eqb (length binding % 4) 0 h) refl
 
-  -- the three buffers hold the words of net, marking and binding, each up to 16,385
-  pub bytes-tested : {ns ms bs : List ℕ} (v : Tested) → length net % 4 ≡ 0 → length marking % 4 ≡ 0 → length binding % 4 ≡ 0 → ns ≡ take 16385 (wordsOfBytes net) → ms ≡ take 16385 (wordsOfBytes marking) → bs ≡ take 16385 (wordsOfBytes binding) → v ≡ testCall ns t ms bs → v ≡ testBytesCall net t marking binding
+  pub bytes-tested : (v : Tested) → length net % 4 ≡ 0 → length marking % 4 ≡ 0 → length binding % 4 ≡ 0 → v ≡ testCall (wordsOfBytes net) t (wordsOfBytes marking) (wordsOfBytes binding) → v ≡ testBytesCall net t marking binding
   unfolding testBytesCall
-  bytes-tested v x y z e f g c = rw (eq-eqb (length net % 4) 0 x, eq-eqb (length marking % 4) 0 y, eq-eqb (length binding % 4) 0 z, test-prefix (wordsOfBytes net) t (wordsOfBytes marking) (wordsOfBytes binding), ← e, ← f, ← g) c
+  bytes-tested v x y z c = rw (eq-eqb (length net % 4) 0 x, eq-eqb (length marking % 4) 0 y, eq-eqb (length binding % 4) 0 z) c
+
+  -- ns, ms and bs are the first 16,385 words of net, marking and binding
+  pub words-tested : {ns ms bs : List ℕ} {v : Tested} → ns ≡ take 16385 (wordsOfBytes net) → ms ≡ take 16385 (wordsOfBytes marking) → bs ≡ take 16385 (wordsOfBytes binding) → v ≡ testCall ns t ms bs → v ≡ testCall (wordsOfBytes net) t (wordsOfBytes marking) (wordsOfBytes binding)
+  words-tested e f g c = rw (test-prefix (wordsOfBytes net) t (wordsOfBytes marking) (wordsOfBytes binding), ← e, ← f, ← g) c
 
 -- ── Split ──
 

@@ -6,3 +6,5 @@ pub mod bytes;
 pub mod answer;
 // Check and split.
 pub mod nets;
+// Test.
+pub mod test;
