@@ -61,7 +61,6 @@ static void reference_test(void) {
     sink += r.number + r.position + enabled;
 }
 
-#ifdef GIMLETLEMON_HAS_FIRE
 static uint32_t next[MOST_WORDS];
 
 static void library_fire(void) {
@@ -74,7 +73,6 @@ static void reference_fire(void) {
     struct refusal r = ref_fire(net->at, net->length, 0, marking.at, marking.length, binding.at, binding.length, next, MOST_WORDS, &length);
     sink += r.number + r.position + length;
 }
-#endif
 
 /* ns for a call, the least of five runs */
 static double time_of(void (*call)(void), unsigned times) {
@@ -121,7 +119,6 @@ int main(void) {
     binding.at[1] = 0xC0000008;
     compare("test, example a", 1000000, library_test, reference_test);
 
-#ifdef GIMLETLEMON_HAS_FIRE
     static struct words moving;
     long_situation(&moving, &marking, &binding);
     marking.length = 2 * 5000;
@@ -130,6 +127,5 @@ int main(void) {
     uint64_t length;
     if (ref_fire(net->at, net->length, 0, marking.at, marking.length, binding.at, binding.length, next, MOST_WORDS, &length).number != 0) return 1;
     compare("fire, a marking of 5,000 entries", 5000, library_fire, reference_fire);
-#endif
     return 0;
 }

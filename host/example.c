@@ -41,7 +41,6 @@ int main(void) {
         printf("(12, %" PRIu32 "): refusal %" PRIu32 ", %s\n", second, refusal, enabled ? "enabled" : "not enabled");
     }
 
-#ifdef GIMLETLEMON_HAS_FIRE
     const uint32_t binding[] = {0xC000000B, 0xC0000008};
     uint32_t next[8];
     uint64_t length;
@@ -49,6 +48,5 @@ int main(void) {
     printf("fire (11, 8): refusal %" PRIu32 ", new marking:", refusal);
     for (uint64_t i = 0; i < length; i++) printf(" %08" PRIX32, next[i]);
     printf("\n");
-#endif
     return 0;
 }

@@ -99,7 +99,6 @@ uint32_t gimletlemon_test(const uint32_t *net, size_t net_length, uint32_t trans
 uint32_t gimletlemon_test_bytes(const uint8_t *net, size_t net_length, uint32_t transition, const uint8_t *marking, size_t marking_length,
                                 const uint8_t *binding, size_t binding_length, uint64_t *enabled, uint64_t *position);
 
-#ifdef GIMLETLEMON_HAS_FIRE
 /*
  * Fires a binding of a transition. Returns 0 and writes the new marking to the front of `next` and its length; or returns a refusal from 1 to 8 or
  * from 13 to 16.
@@ -112,7 +111,6 @@ uint32_t gimletlemon_test_bytes(const uint8_t *net, size_t net_length, uint32_t 
 uint32_t gimletlemon_fire(const uint32_t *net, size_t net_length, uint32_t transition, const uint32_t *marking, size_t marking_length,
                           const uint32_t *binding, size_t binding_length, uint32_t *next, size_t next_length, uint64_t *length,
                           uint64_t *position);
-#endif
 
 #ifdef __cplusplus
 }

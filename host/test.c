@@ -182,7 +182,6 @@ static void try_test(const struct words *net, uint32_t transition, const struct 
     }
 }
 
-#ifdef GIMLETLEMON_HAS_FIRE
 static void try_fire(const struct words *net, uint32_t transition, const struct words *marking, const struct words *binding) {
     static uint32_t before[ROOM], after[ROOM];
     struct answer library = {{0, unwritten}, unwritten}, reference = {{0, 0}, 0};
@@ -213,13 +212,10 @@ static void try_fire(const struct words *net, uint32_t transition, const struct 
         fail_situation(net, transition, marking, binding);
     }
 }
-#endif
 
 static void try_situation(const struct words *net, uint32_t transition, const struct words *marking, const struct words *binding) {
     try_test(net, transition, marking, binding);
-#ifdef GIMLETLEMON_HAS_FIRE
     try_fire(net, transition, marking, binding);
-#endif
 }
 
 /* ── Rounds ── */

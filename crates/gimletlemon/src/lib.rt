@@ -8,3 +8,5 @@ pub mod answer;
 pub mod nets;
 // Test.
 pub mod test;
+// Fire.
+pub mod fire;
