@@ -13,6 +13,8 @@
  * Numbers to be written (uint64_t *) are never NULL, are aligned to 8 bytes, and are written on every call, whatever it answers. They overlap
  * neither each other nor any slice; what they hold before the call does not matter.
  *
+ * Functions on words use less than 32 KB of stack; those on bytes say what they use.
+ *
  * Functions may be called from several threads at once if no call writes what another call uses.
  */
 #ifndef GIMLETLEMON_H
@@ -94,7 +96,7 @@ uint32_t gimletlemon_test(const uint32_t *net, size_t net_length, uint32_t trans
 
 /*
  * The same on little-endian bytes. A length that is not a multiple of four is refused first, with 2, 7 or 8 for net, marking or binding, in that
- * order, at the count of whole words. Uses about 210 KB of stack.
+ * order, at the count of whole words. Uses about 220 KB of stack.
  */
 uint32_t gimletlemon_test_bytes(const uint8_t *net, size_t net_length, uint32_t transition, const uint8_t *marking, size_t marking_length,
                                 const uint8_t *binding, size_t binding_length, uint64_t *enabled, uint64_t *position);
