@@ -20,5 +20,6 @@ pub mod Words
 pub mod Entries
 pub mod Spans
 pub mod ReadEntries
+pub mod Prefix
 pub mod Markings
 pub mod Reach

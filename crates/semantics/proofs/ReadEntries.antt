@@ -51,7 +51,7 @@ token-read places ws at w next e = by (word-read ws 0xB (tokenIn places) at w ne
         let same : tokenWord (bits 14 21 w) (bits 0 13 w) ≡ s .0 = rw (← s .3) (token-again (s .0) (s .2) x) in
         (rw same (s .1), h .1, h .2)
 
-entry-read : (places : List Place) (ws : List ℕ) (at : ℕ) (e : Entry) (next : ℕ) → readEntry places ws at ≡ read e next → Span ws at (wordsOfEntry e) next × Good places e
+pub entry-read : (places : List Place) (ws : List ℕ) (at : ℕ) (e : Entry) (next : ℕ) → readEntry places ws at ≡ read e next → Span ws at (wordsOfEntry e) next × Good places e
 unfolding readEntry tokenIn
 entry-read places ws at e next r =
     then-read (word ws 0xB (tokenIn places) at) (λ w mid. then (valuesIn ws (rangesAt places (bits 14 21 w)) mid) (λ c last. read (record { place = bits 14 21 w; count = bits 0 13 w; colour = c }) last)) e next r λ w mid p q.

@@ -1,0 +1,131 @@
+/*
+ * Times of the library beside those of the reference, on the same input in the same run. Both are called once before the clock starts, so that
+ * caches are warm. The reference keeps its structures from call to call; the library makes its tables anew on the stack, and clears them.
+ */
+#define _POSIX_C_SOURCE 200809L
+#include "gimletlemon.h"
+#include "random.h"
+#include "reference.h"
+
+#include <stdio.h>
+#include <stdlib.h>
+#include <time.h>
+
+static double seconds(void) {
+    struct timespec t;
+    clock_gettime(CLOCK_MONOTONIC, &t);
+    return (double)t.tv_sec + 1e-9 * (double)t.tv_nsec;
+}
+
+/* what the calls answered, so that none of them can be left out */
+static volatile uint64_t sink;
+
+static struct words example_net = {14, {0x10000101, 0x20000001, 0x30000000, 0x40020022, 0x3002C00C, 0x30020009, 0x50000000,
+                                        0x80000000, 0x70000000, 0x50000000, 0x80000001, 0x70000000, 0xA0000200, 0xA0000201}};
+static struct words long_net;
+
+static const struct words *net;
+
+static void library_check(void) {
+    uint64_t position;
+    sink += gimletlemon_check(net->at, net->length, &position) + position;
+}
+
+static void reference_check(void) {
+    struct refusal r = ref_check(net->at, net->length);
+    sink += r.number + r.position;
+}
+
+static uint8_t bytes[4 * MOST_WORDS];
+
+static void library_check_bytes(void) {
+    uint64_t position;
+    sink += gimletlemon_check_bytes(bytes, 4 * net->length, &position) + position;
+}
+
+static void reference_check_bytes(void) {
+    struct refusal r = ref_check_bytes(bytes, 4 * net->length);
+    sink += r.number + r.position;
+}
+
+static struct words marking, binding;
+
+static void library_test(void) {
+    uint64_t enabled, position;
+    sink += gimletlemon_test(net->at, net->length, 0, marking.at, marking.length, binding.at, binding.length, &enabled, &position) + enabled + position;
+}
+
+static void reference_test(void) {
+    uint64_t enabled;
+    struct refusal r = ref_test(net->at, net->length, 0, marking.at, marking.length, binding.at, binding.length, &enabled);
+    sink += r.number + r.position + enabled;
+}
+
+static uint32_t next[MOST_WORDS];
+
+static void library_fire(void) {
+    uint64_t length, position;
+    sink += gimletlemon_fire(net->at, net->length, 0, marking.at, marking.length, binding.at, binding.length, next, MOST_WORDS, &length, &position) + length + position;
+}
+
+static void reference_fire(void) {
+    uint64_t length;
+    struct refusal r = ref_fire(net->at, net->length, 0, marking.at, marking.length, binding.at, binding.length, next, MOST_WORDS, &length);
+    sink += r.number + r.position + length;
+}
+
+/* ns for a call, the least of five runs */
+static double time_of(void (*call)(void), unsigned times) {
+    double best = 1e30;
+    call();
+    for (unsigned run = 0; run < 5; run++) {
+        double start = seconds();
+        for (unsigned i = 0; i < times / 5; i++) call();
+        double ns = (seconds() - start) * 1e9 / (times / 5);
+        if (ns < best) best = ns;
+    }
+    return best;
+}
+
+static void compare(const char *what, unsigned times, void (*library)(void), void (*reference)(void)) {
+    double l = time_of(library, times), r = time_of(reference, times);
+    printf("%-44s %8u calls   library %10.1f ns   reference %10.1f ns   reference / library %6.2f\n", what, times, l, r, r / l);
+}
+
+static void to_bytes(const struct words *w) {
+    for (size_t i = 0; i < 4 * w->length; i++) bytes[i] = (uint8_t)(w->at[i / 4] >> 8 * (i % 4));
+}
+
+int main(void) {
+    net = &example_net;
+    if (ref_check(net->at, net->length).number != 0) return 1;
+    to_bytes(net);
+    compare("check, example a (14 words)", 1000000, library_check, reference_check);
+    compare("check on bytes, example a", 1000000, library_check_bytes, reference_check_bytes);
+
+    random_seed(1);
+    sized_net(&long_net, MOST_WORDS);
+    net = &long_net;
+    if (net->length != MOST_WORDS || ref_check(net->at, net->length).number != 0) return 1;
+    to_bytes(net);
+    compare("check, a net of 16,384 words", 5000, library_check, reference_check);
+    compare("check on bytes, a net of 16,384 words", 5000, library_check_bytes, reference_check_bytes);
+
+    net = &example_net;
+    marking.length = binding.length = 2;
+    marking.at[0] = 0xB0000014;
+    marking.at[1] = 0xC0000000;
+    binding.at[0] = 0xC000000C;
+    binding.at[1] = 0xC0000008;
+    compare("test, example a", 1000000, library_test, reference_test);
+
+    static struct words moving;
+    long_situation(&moving, &marking, &binding);
+    marking.length = 2 * 5000;
+    binding.at[0] = ref_value_word(2500 - 8192);
+    net = &moving;
+    uint64_t length;
+    if (ref_fire(net->at, net->length, 0, marking.at, marking.length, binding.at, binding.length, next, MOST_WORDS, &length).number != 0) return 1;
+    compare("fire, a marking of 5,000 entries", 5000, library_fire, reference_fire);
+    return 0;
+}

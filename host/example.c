@@ -1,0 +1,52 @@
+/* Example a of document 01: one pump place with twenty tokens, and a transition that gives two shares of them. */
+#include "gimletlemon.h"
+
+#include <inttypes.h>
+#include <stdio.h>
+
+static const uint32_t net[] = {
+    0x10000101,                                     /* NET: one place, one transition */
+    0x20000001, 0x30000000,                         /* PLACE with one component, 0 to 0 */
+    0x40020022,                                     /* TRANSITION: two variables, two input arcs, two elements */
+    0x3002C00C, 0x30020009,                         /* their ranges, 11 to 12 and 8 to 9 */
+    0x50000000, 0x80000000, 0x70000000,             /* the first takes variable 0 tokens of colour (0) */
+    0x50000000, 0x80000001, 0x70000000,             /* the second takes variable 1 tokens of it */
+    0xA0000200, 0xA0000201                          /* plan: range 0, range 1 */
+};
+
+static const uint32_t marking[] = {0xB0000014, 0xC0000000}; /* twenty tokens of colour (0) on place 0 */
+
+#define WORDS(a) (sizeof(a) / sizeof(a)[0])
+
+int main(void) {
+    uint64_t position, rest;
+    uint32_t refusal = gimletlemon_check(net, WORDS(net), &position);
+    if (refusal != GIMLETLEMON_ACCEPTED) {
+        printf("the net is refused with %" PRIu32 " at %" PRIu64 "\n", refusal, position);
+        return 1;
+    }
+    printf("the net is accepted\n");
+
+    /* without its last word it ends early */
+    refusal = gimletlemon_check(net, WORDS(net) - 1, &position);
+    printf("without its last word it is refused with %" PRIu32 " at %" PRIu64 "\n", refusal, position);
+
+    refusal = gimletlemon_split(net, WORDS(net), &rest, &position);
+    printf("split: refusal %" PRIu32 ", %zu words, %" PRIu64 " of them the net\n", refusal, WORDS(net), rest);
+
+    for (uint32_t second = 8; second <= 9; second++) {
+        const uint32_t binding[] = {0xC000000C, 0xC0000000 | second};
+        uint64_t enabled;
+        refusal = gimletlemon_test(net, WORDS(net), 0, marking, WORDS(marking), binding, WORDS(binding), &enabled, &position);
+        printf("(12, %" PRIu32 "): refusal %" PRIu32 ", %s\n", second, refusal, enabled ? "enabled" : "not enabled");
+    }
+
+    const uint32_t binding[] = {0xC000000B, 0xC0000008};
+    uint32_t next[8];
+    uint64_t length;
+    refusal = gimletlemon_fire(net, WORDS(net), 0, marking, WORDS(marking), binding, WORDS(binding), next, WORDS(next), &length, &position);
+    printf("fire (11, 8): refusal %" PRIu32 ", new marking:", refusal);
+    for (uint64_t i = 0; i < length; i++) printf(" %08" PRIX32, next[i]);
+    printf("\n");
+    return 0;
+}

@@ -1,0 +1,42 @@
+/* Random nets, markings and bindings, good ones and damaged ones, from a seed. */
+#ifndef RANDOM_H
+#define RANDOM_H
+
+#include "reference.h"
+
+#include <stddef.h>
+#include <stdint.h>
+
+enum { ROOM = 3 * MOST_WORDS };
+
+/* words, up to ROOM of them */
+struct words {
+    size_t length;
+    uint32_t at[ROOM];
+};
+
+void random_seed(uint64_t seed);
+uint64_t random_below(uint64_t n);
+
+/* a good net; a large one is longer than 16,384 words now and then */
+void random_net(struct words *net, int large);
+
+/* a good net of exactly so many words, 4,675 to 47,683 */
+void sized_net(struct words *net, size_t length);
+
+/* a good binding, and a marking with the colours that it takes, many times just enough of them */
+void random_situation(const struct net *net, unsigned transition, struct words *marking, struct words *binding);
+
+/* a marking of about so many words with colours of the net's places, if these have enough */
+void random_marking(const struct net *net, size_t words, struct words *marking);
+
+/* a net of one place with all values, a marking of about 16,384 words, and a binding that moves a token to a colour that has none */
+void long_situation(struct words *net, struct words *marking, struct words *binding);
+
+/* a word changed, dropped or added, a bit flipped, the end cut off or words put after it */
+void damage(struct words *w);
+
+/* an element of a plan of a good net changed, put later or left out */
+void damage_plan(struct words *net);
+
+#endif
