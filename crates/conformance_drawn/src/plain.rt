@@ -1,0 +1,158 @@
+// Firing on counts, one for each of the twelve colours of the nets of `draw`, as document 01 says it: colours of place 0 at 0 to 3, of place 1 at 4 to 9,
+// of place 2 at 10 and 11, so that marking words are the counts above 0 in turn.
+//
+// A flow, what an arc says under a binding, is five numbers: place, 1 if all its expressions have values and 0 if not, coefficient, components.
+use crate::draw::is_negative;
+use conformance_report::build::put;
+use std::num::wrapping_add_u32;
+use std::num::wrapping_sub_u32;
+
+fn wide(w: u32) -> usize {
+    w as usize
+}
+
+// The number at a position, 0 beyond the end.
+pub fn get(numbers: &[u32], at: usize) -> u32 {
+    if at < numbers.len() {
+        return numbers[at];
+    }
+    0
+}
+
+// Where a colour's count stands; 12 for a colour that the place does not have.
+fn index_of(place: u32, a: u32, b: u32) -> usize {
+    let from = match place {
+        0 => wrapping_add_u32(a, 1),
+        1 => wrapping_add_u32(b, 1),
+        _ => wrapping_sub_u32(a, 3),
+    };
+    match place {
+        0 => {
+            if from < 4 {
+                return wide(from);
+            }
+        }
+        1 => {
+            if from < 3 {
+                if a < 2 {
+                    return wide(4 + a * 3 + from);
+                }
+            }
+        }
+        _ => {
+            if from < 2 {
+                return wide(10 + from);
+            }
+        }
+    }
+    12
+}
+
+// One flow added to the sums by colour; whether it has values, no negative coefficient, and a colour of its place where the coefficient is
+// positive. (An input of a colour that the place does not have is more than the 0 marked.)
+fn add_flow(sums: &mut [u32], flows: &[u32], at: usize) -> bool {
+    let coefficient = get(flows, at % 64 + 2);
+    if get(flows, at % 64 + 1) == 0 {
+        return false;
+    }
+    if is_negative(coefficient) {
+        return false;
+    }
+    if coefficient == 0 {
+        return true;
+    }
+    let i = index_of(
+        get(flows, at % 64),
+        get(flows, at % 64 + 3),
+        get(flows, at % 64 + 4),
+    );
+    let sum = wrapping_add_u32(get(sums, i), coefficient);
+    put(sums, i, sum);
+    i < 12
+}
+
+// All flows of a list added to the sums; whether each passes.
+pub fn add_flows(sums: &mut [u32], flows: &[u32], count: u32) -> bool {
+    let mut good = true;
+    let mut at = 0;
+    let mut left = count;
+    while 0 < left {
+        if !add_flow(sums, flows, at) {
+            good = false;
+        }
+        at = at % 32 + 5;
+        left -= 1;
+    }
+    good
+}
+
+// Whether each sum is at most its count.
+pub fn covered(sums: &[u32], counts: &[u32]) -> bool {
+    let mut i = 0;
+    while i < 12 {
+        if get(counts, i) < get(sums, i) {
+            return false;
+        }
+        i += 1;
+    }
+    true
+}
+
+// Count - inputs + outputs for each colour; whether each is at most 16,383.
+pub fn move_tokens(counts: &mut [u32], taken: &[u32], given: &[u32]) -> bool {
+    let mut good = true;
+    let mut i = 0;
+    while i < 12 {
+        let kept = wrapping_sub_u32(get(counts, i), get(taken, i));
+        let count = wrapping_add_u32(kept, get(given, i));
+        put(counts, i, count);
+        if 16383 < count {
+            good = false;
+        }
+        i += 1;
+    }
+    good
+}
+
+fn put_value(words: &mut [u32], at: usize, v: u32) -> usize {
+    put(words, at, 0xC000_0000 + v % 0x4000)
+}
+
+// The entry of a colour by its index.
+fn put_entry(words: &mut [u32], at: usize, i: u32, count: u32) -> usize {
+    let bits = count % 0x4000;
+    match i {
+        0..=3 => {
+            let first = put(words, at, 0xB000_0000 + bits);
+            put_value(words, first, wrapping_sub_u32(i, 1))
+        }
+        4..=9 => {
+            let token = put(words, at, 0xB000_4000 + bits);
+            let last = put_value(words, token, (i - 4) / 3);
+            put_value(words, last, wrapping_sub_u32((i - 4) % 3, 1))
+        }
+        _ => {
+            let second = put(words, at, 0xB000_8000 + bits);
+            put_value(words, second, wrapping_sub_u32(i, 7))
+        }
+    }
+}
+
+// The entry of a colour by its index, where the count is not 0.
+fn put_count(words: &mut [u32], at: usize, i: u32, count: u32) -> usize {
+    if count == 0 {
+        return at;
+    }
+    put_entry(words, at, i, count)
+}
+
+// The marking words of counts; answers their number.
+pub fn list_entries(words: &mut [u32], counts: &[u32]) -> usize {
+    let mut at = 0;
+    let mut i: u32 = 0;
+    while i < 12 {
+        at = put_count(words, at, i, get(counts, wide(i)));
+        i += 1;
+    }
+    at
+}
