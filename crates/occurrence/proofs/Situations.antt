@@ -56,13 +56,14 @@ past-elem (x ∷ xs) (suc i) h = past-elem xs i (omega arith)
 next-refused : {X : Type 0} {next n p : ℕ} → Next next ≡ Refused n p → X
 next-refused e = false-true (cc)
 
-marking-refused : (x : Reading (List Entry)) (s : Skipped) {n p : ℕ} → skipped s ≡ forget x → s ≡ Refused n p → x ≡ refused n p
-marking-refused (read es k) s {n} {p} e d = let a : refused n p ≡ read tt k = sym (ap skipped d) ∙ e in false-true (cc)
-marking-refused (refused m q) s {n} {p} e d = let a : refused n p ≡ refused m q = sym (ap skipped d) ∙ e in cc
+-- a reading that the code has passed over, told by its end
+pub passed-refused : {A : Type 0} (x : Reading A) (s : Skipped) {n p : ℕ} → skipped s ≡ forget x → s ≡ Refused n p → x ≡ refused n p
+passed-refused (read a k) s {n} {p} e d = let b : refused n p ≡ read tt k = sym (ap skipped d) ∙ e in false-true (cc)
+passed-refused (refused m q) s {n} {p} e d = let b : refused n p ≡ refused m q = sym (ap skipped d) ∙ e in cc
 
-marking-read : (x : Reading (List Entry)) (s : Skipped) {n : ℕ} → skipped s ≡ forget x → s ≡ Next n → (es : List Entry) × (x ≡ read es n)
-marking-read (read es k) s {n} e d = let a : read tt n ≡ read tt k = sym (ap skipped d) ∙ e in (es, cc)
-marking-read (refused m q) s {n} e d = let a : read tt n ≡ refused m q = sym (ap skipped d) ∙ e in false-true (cc)
+pub passed-read : {A : Type 0} (x : Reading A) (s : Skipped) {n : ℕ} → skipped s ≡ forget x → s ≡ Next n → (a : A) × (x ≡ read a n)
+passed-read (read a k) s {n} e d = let b : read tt n ≡ read tt k = sym (ap skipped d) ∙ e in (a, cc)
+passed-read (refused m q) s {n} e d = let b : read tt n ≡ refused m q = sym (ap skipped d) ∙ e in false-true (cc)
 
 -- ── By the answers of the code ──
 
@@ -136,10 +137,10 @@ module _ (ws ms : List ℕ) (t : ℕ) (i : NetIndex) (x : netRead i ≡ changed 
           marking = rw placed (z .same)
 
           stops : (n o : ℕ) → s .end ≡ Refused n o → situation ws t ms ≡ refused n o
-          stops n o k = rw (is-accepted, known .1, marking-refused (markingRead (net .places) ms) (m .end) marking (sym a ∙ k))
+          stops n o k = rw (is-accepted, known .1, passed-refused (markingRead (net .places) ms) (m .end) marking (sym a ∙ k))
 
           goes : (n : ℕ) → s .end ≡ Next n → Prepared ws t ms s
-          goes n k = by (marking-read (markingRead (net .places) ms) (m .end) marking (sym a ∙ k))
+          goes n k = by (passed-read (markingRead (net .places) ms) (m .end) marking (sym a ∙ k))
             where
               by : (es : List Entry) × (markingRead (net .places) ms ≡ read es n) → Prepared ws t ms s
               by (es, r) = record {

@@ -16,7 +16,6 @@ use Rattle.semantics.specs.Net.{Arc, Conjunct, Transition, Net}
 use Rattle.semantics.specs.Marking.{Entry, readBinding, countsOf}
 use Rattle.semantics.specs.Enabling.{isEnabled, coversAll}
 use Rattle.semantics.specs.Calls.{yesOrNo, testCall}
-use Rattle.semantics.proofs.Tests.{false-true}
 use Rattle.expression.specs.declared.read.Skipped.{Skipped}
 use Rattle.expression.specs.declared.read.Skipped.the-variants.{Next, Refused}
 use Rattle.expression.specs.Skip.{forget, skipped}
@@ -31,20 +30,12 @@ use Rattle.occurrence.specs.declared.situation.Situation.{Situation}
 use Rattle.occurrence.specs.Flow.{guardAt, flowsAt}
 use Rattle.occurrence.specs.Answers.{IsEnabledAt}
 use Rattle.occurrence.specs.Situation.{Prepared, IsSituation}
+use Rattle.occurrence.proofs.Situations.{passed-refused, passed-read}
 use Rattle.occurrence.proofs.Reading.{inputs-told, guard-told, binding-lent}
 
 pub test-refused : (ws : List ℕ) (t : ℕ) (ms bs : List ℕ) {s : Situation} {n p : ℕ} → IsSituation ws t ms s → s .end ≡ Refused n p → TestRefused n p ≡ testCall ws t ms bs
 unfolding testCall
 test-refused ws t ms bs {n = n} {p = p} i e = rw (i .refuses n p e)
-
--- what a binding that is read, or not, says
-binding-stops : (x : Reading (List ℤ)) (s : Skipped) {n p : ℕ} → skipped s ≡ forget x → s ≡ Refused n p → x ≡ refused n p
-binding-stops (read b k) s {n} {p} e d = let a : refused n p ≡ read tt k = sym (ap skipped d) ∙ e in false-true (cc)
-binding-stops (refused m q) s {n} {p} e d = let a : refused n p ≡ refused m q = sym (ap skipped d) ∙ e in cc
-
-binding-goes : (x : Reading (List ℤ)) (s : Skipped) {n : ℕ} → skipped s ≡ forget x → s ≡ Next n → (b : List ℤ) × (x ≡ read b n)
-binding-goes (read b k) s {n} e d = let a : read tt n ≡ read tt k = sym (ap skipped d) ∙ e in (b, cc)
-binding-goes (refused m q) s {n} e d = let a : read tt n ≡ refused m q = sym (ap skipped d) ∙ e in false-true (cc)
 
 module _ {ws : List ℕ} {t : ℕ} {ms : List ℕ} {s : Situation} (p : Prepared ws t ms s) where
   pub as-many : s .transition .variables ≡ length (p .transition .variables)
@@ -63,7 +54,7 @@ module _ {ws : List ℕ} {t : ℕ} {ms : List ℕ} {s : Situation} (p : Prepared
     binding-told = x ∙ ap (λ (rs : List Range). forget (bindingRead rs bs)) variables-same
 
     pub unbound-refused : {n q : ℕ} → r ≡ Refused n q → readBinding (p .transition) bs ≡ refused n q
-    unbound-refused e = binding-stops (readBinding (p .transition) bs) r binding-told e
+    unbound-refused e = passed-refused (readBinding (p .transition) bs) r binding-told e
 
     pub test-unbound : {n q : ℕ} → r ≡ Refused n q → TestRefused n q ≡ testCall ws t ms bs
     unfolding testCall
@@ -71,7 +62,7 @@ module _ {ws : List ℕ} {t : ℕ} {ms : List ℕ} {s : Situation} (p : Prepared
 
     module _ {next : ℕ} (e : r ≡ Next next) where
       pub bound-read : (b : List ℤ) × (readBinding (p .transition) bs ≡ read b next)
-      bound-read = binding-goes (readBinding (p .transition) bs) r binding-told e
+      bound-read = passed-read (readBinding (p .transition) bs) r binding-told e
 
       is-binding : IsBinding (p .transition .variables) bs (bound-read .0)
       unfolding readBinding bindingRead

@@ -21,7 +21,7 @@ mul-result c = let h = split-inside _ (c .before .before .before .front .ensures
 
 -- src/split.rt:40:13
 sub-result : tie.Need-sub-result
-sub-result c = split-inside _ (c .before .before .before .front .ensures) (c .before .next .given .1)
+sub-result c = let h = split-inside _ (c .before .before .before .front .ensures) (c .before .next .given .1) in search needs
 
 -- src/split.rt:40:13
 part-result-start : tie.Need-part-result-start
