@@ -15,7 +15,7 @@ ghost use Rattle.word.specs.Number.{number};
 ghost use Rattle.expression.specs.Evaluate.{valueOf, lent, evaluated, evaluatedFrom, IsOutcome};
 
 // The value of a VALUE word; any other word has none.
-fn value_of(w: u32) -> Number
+pub fn value_of(w: u32) -> Number
     ensures { λ r. ⌜ number r ≡ valueOf w ⌝ }
 {
     match kind(w) {

@@ -13,19 +13,16 @@ use lib.IntN.{ℤ}
 use lib.ListN.{length, take, drop}
 use Rattle.semantics.specs.declared.Fired.{Fired}
 use Rattle.semantics.specs.declared.Fired.the-variants.{Written, Refused as FireRefused}
-use Rattle.semantics.specs.Refusal.{badMarking, notEnabled, badOutput, overCount, overRoom, mostCount, mostWords}
+use Rattle.semantics.specs.Refusal.{notEnabled, badOutput, overCount, overRoom, mostCount, mostWords}
 use Rattle.semantics.specs.Lists.{Every, every}
 use Rattle.semantics.specs.Expression.{houseTable, bound, given}
 use Rattle.semantics.specs.Reading.{read}
 use Rattle.semantics.specs.Net.{Place, Arc, Conjunct, Transition, Net}
-use Rattle.semantics.specs.Marking.{Entry, key, Counts, Proper, readEntries, countsOf, markingWords}
+use Rattle.semantics.specs.Marking.{Entry, key, Counts, Proper, countsOf, markingWords}
 use Rattle.semantics.specs.Enabling.{Flow, total, effect, flows, coversAll, isEnabled, fits, withinCounts, Firing, moved, stopped, occurBy, occur}
 use Rattle.semantics.specs.Run.{hasRoom, roomed, fire}
 use Rattle.semantics.specs.Calls.{firedBy}
 use Rattle.semantics.proofs.Tests.{false-true, either, not-both, and-left, and-right, and-both, Every-at, every-of, every-at}
-use Rattle.semantics.proofs.Spans.{numbered-read}
-use Rattle.semantics.proofs.Entries.{counts-proper}
-use Rattle.semantics.proofs.ReadEntries.{entries-read}
 use Rattle.semantics.proofs.Markings.{step-proper}
 use Rattle.semantics.proofs.Step.{Limited, within-all, all-within, occurs-step}
 use Rattle.semantics.proofs.Members.{none-some}
@@ -33,6 +30,7 @@ use Rattle.net.specs.declared.index.TransitionIndex.{TransitionIndex}
 use Rattle.net.specs.Skim.{Outline}
 use Rattle.net.specs.Index.{outlined}
 use Rattle.net.specs.Places.{placesAt, PlacesFit}
+use Rattle.marking.proofs.Counted.{marking-counts}
 use Rattle.marking.specs.Marked.{markingRead, Begins}
 use Rattle.occurrence.specs.declared.flow.Flows.{Flows}
 use Rattle.occurrence.specs.Flow.{guardAt, flowsAt}
@@ -46,13 +44,6 @@ use Rattle.firing.specs.Built.{within, BuiltFrom, IsBuilt}
 use Rattle.firing.specs.Fire.{Fireable, fireEnd, IsFired}
 use Rattle.firing.proofs.Patched.{patched-words, patched-ordered}
 use Rattle.firing.proofs.Building.{untouched-same}
-
--- the counts of a marking that was read
-marking-counts : (net : Net) (ms : List ℕ) (es : List Entry) (next : ℕ) → markingRead (net .places) ms ≡ read es next → Proper net (countsOf es)
-unfolding markingRead
-marking-counts net ms es next r =
-    let a = entries-read (length ms) (net .places) ms [] 0 es next (omega arith) (numbered-read badMarking (readEntries (length ms) (net .places) ms [] 0) es next r) in
-    counts-proper net es (a .rises) (a .good)
 
 module _ {ws ps : List ℕ} {t : TransitionIndex} {ms begins bs : List ℕ} (q : Fireable ws ps t ms begins bs) where
   -- ── The flows of the transition ──
@@ -72,7 +63,7 @@ module _ {ws ps : List ℕ} {t : TransitionIndex} {ms begins bs : List ℕ} (q :
   counts : Counts
   counts = countsOf (q .entries)
 
-  enabled-is : {r : Flows} → IsTaken ws ps t ms begins bs r → r .some ≡ isEnabled houseTable (q .transition) counts (q .binding)
+  enabled-is : {r : Flows} → IsTaken ws ps (outlined t .guard) (outlined t .inputs) ms begins bs r → r .some ≡ isEnabled houseTable (q .transition) counts (q .binding)
   unfolding isEnabled counts
   enabled-is i =
       let h = i .enabled .enabled (q .net .places) (q .placed) (q .entries) (q .end) (q .marked) (q .begun) in
@@ -88,7 +79,7 @@ module _ {ws ps : List ℕ} {t : TransitionIndex} {ms begins bs : List ℕ} (q :
 
   -- ── 13 ──
 
-  module _ {ins : Flows} (i : IsTaken ws ps t ms begins bs ins) where
+  module _ {ins : Flows} (i : IsTaken ws ps (outlined t .guard) (outlined t .inputs) ms begins bs ins) where
     pub fired-13 : (buffer : List ℕ) → not (ins .some) ≡ true → fireEnd (FireRefused notEnabled 0) buffer ≡ firedBy (q .net) buffer (fire houseTable (q .net) (length buffer) (q .transition) (countsOf (q .entries)) (q .binding))
     unfolding fire occur counts
     fired-13 buffer d =

@@ -33,18 +33,6 @@ use Rattle.occurrence.proofs.Covering.{colour-length, flows-length, flow-next}
 use Rattle.occurrence.proofs.Enabling.{flow-bounded, all-bounded, flows-none, flows-some}
 use Rattle.firing.specs.Fit.{fitsAt, FlowsAmong, deliveredBy, IsGiven}
 
--- ── One value ──
-
-module _ (range : ℕ) (z : ℤ) {x : Bool} (e : x ≡ leZ (signed (range / 16384 % 16384)) z) where
-  pub range-low : not x ≡ true → false ≡ within (rangeWord range) z
-  range-low d = let f : leZ (signed (range / 16384 % 16384)) z ≡ false = sym e ∙ not-true x d in rw f
-
-  pub range-high : {t : Bool} → not x ≡ false → t ≡ leZ z (signed (range % 16384)) → t ≡ within (rangeWord range) z
-  range-high d g =
-      let f : leZ (signed (range / 16384 % 16384)) z ≡ true = sym e ∙ not-false x d in
-      let q : range / 1 ≡ range = omega arith in
-      rw (f, q) g
-
 -- ── A colour ──
 
 -- the i first components are in their ranges

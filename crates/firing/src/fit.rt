@@ -1,46 +1,19 @@
 // What output arcs deliver: refusal 14 where an expression has no value, a coefficient is negative or a colour is outside its place.
 use accept::plan::at_most;
+use marking::range::in_range;
 use net::index::TransitionIndex;
 use occurrence::flow::Flow;
 use occurrence::flow::Flows;
 use occurrence::flow::flows_at;
 use occurrence::flow::no_flows;
-use word::fields::signed;
 ghost use mathlib.Core.Path.{_≡_};
-ghost use Prim.Native.Nat.{_≤_, _+_, _/_, _%_};
+ghost use Prim.Native.Nat.{_≤_, _+_};
 ghost use lib.ListN.{length, take};
-ghost use lib.Signed.{leZ};
 ghost use Rattle.semantics.specs.Lists.{every};
-ghost use Rattle.semantics.specs.Word.{signed, within};
 ghost use Rattle.semantics.specs.Order.{inRanges};
-ghost use Rattle.word.specs.Fields.{rangeWord};
 ghost use Rattle.net.specs.Places.{rangesFrom, PlacesFit};
 ghost use Rattle.occurrence.specs.Answers.{flowOf, flowsOf, FlowBounds, FlowFits, FlowsFit};
 ghost use Rattle.firing.specs.Fit.{fitsAt, FlowsAmong, IsGiven};
-
-// Whether a value is at least the low end of a RANGE word.
-fn from_low(range: u32, z: i32) -> bool
-    ensures { λ r. ⌜ r ≡ leZ (signed (range / 16384 % 16384)) z ⌝ }
-{
-    signed(range / 16384) <= z
-}
-
-// Whether a value is at most the high end of a RANGE word.
-fn to_high(range: u32, z: i32) -> bool
-    ensures { λ r. ⌜ r ≡ leZ z (signed (range % 16384)) ⌝ }
-{
-    z <= signed(range)
-}
-
-// Whether a value is in the range of a RANGE word.
-fn in_range(range: u32, z: i32) -> bool
-    ensures { λ r. ⌜ r ≡ within (rangeWord range) z ⌝ }
-{
-    if !from_low(range, z) {
-        return false;
-    }
-    to_high(range, z)
-}
 
 // Whether the colour of a flow is in the ranges of the RANGE words from a position on.
 fn colour_fits(net: &[u32], from: usize, f: Flow) -> bool

@@ -85,7 +85,7 @@ countAt [] i c = 0
 countAt (b ∷ bs) zero c = cond (sameTuple (b .colour) c) (b .count) 0
 countAt (b ∷ bs) (suc i) c = countAt bs i c
 
-colours : List Entry → List (List ℤ)
+unfoldable pub colours : List Entry → List (List ℤ)
 colours es = map (λ (e : Entry). e .colour) es
 
 -- no entry after one that is not before c has the colour c, but for that one
@@ -149,7 +149,7 @@ block-past ws p n zero at i c h = refl
 block-past ws p n (suc k) at zero c h = absurd (omega arith)
 block-past ws p n (suc k) at (suc i) c h = block-past ws p n k (at + (n + 1)) i c (omega arith)
 
-block-colours : (ws : List ℕ) (p n k at : ℕ) → colours (blockAt ws p n k at) ≡ coloursAt ws n k at
+pub block-colours : (ws : List ℕ) (p n k at : ℕ) → colours (blockAt ws p n k at) ≡ coloursAt ws n k at
 unfolding blockAt coloursAt colours
 block-colours ws p n zero at = refl
 block-colours ws p n (suc k) at = ap (λ (l : List (List ℤ)). valuesAt ws n (at + 1) ∷ l) (block-colours ws p n k (at + (n + 1)))
@@ -177,15 +177,15 @@ block-rises p es r = colours-rise p (block p es) (block-places p es) (rising-sel
 -- ── A place of a marking ──
 
 -- the entries of a place in a marking with these beginnings, and how the code sees them
-record Seen (ws begins : List ℕ) (p : ℕ) (c : List ℤ) (es : List Entry) : Type 0 where
-  from : getD begins p 0 ≡ beginOf es p
-  to : getD begins (p + 1) 0 ≡ beginOf es p + length (block p es) * (length c + 1)
-  inside : getD begins (p + 1) 0 ≤ length ws
-  stands : blockAt ws p (length c) (length (block p es)) (beginOf es p) ≡ block p es
-  rises : Rising (λ x. x) (colours (block p es))
-  wide : Every (Wide p (length c)) es
+pub record Seen (ws begins : List ℕ) (p : ℕ) (c : List ℤ) (es : List Entry) : Type 0 where
+  pub from : getD begins p 0 ≡ beginOf es p
+  pub to : getD begins (p + 1) 0 ≡ beginOf es p + length (block p es) * (length c + 1)
+  pub inside : getD begins (p + 1) 0 ≤ length ws
+  pub stands : blockAt ws p (length c) (length (block p es)) (beginOf es p) ≡ block p es
+  pub rises : Rising (λ x. x) (colours (block p es))
+  pub wide : Every (Wide p (length c)) es
 
-seen : (ws begins : List ℕ) (p : ℕ) (c : List ℤ) (ps : List Place) (es : List Entry) (next : ℕ) → p < 64 → markingRead ps ws ≡ read es next → Begins es begins → length (rangesAt ps p) ≡ length c → Seen ws begins p c es
+pub seen : (ws begins : List ℕ) (p : ℕ) (c : List ℤ) (ps : List Place) (es : List Entry) (next : ℕ) → p < 64 → markingRead ps ws ≡ read es next → Begins es begins → length (rangesAt ps p) ≡ length c → Seen ws begins p c es
 unfolding markingRead
 seen ws begins p c ps es next h r b l =
     let e = numbered-read badMarking (readEntries (length ws) ps ws [] 0) es next r in

@@ -1,4 +1,5 @@
 pub mod Valuing
+pub mod Ranging
 pub mod Comparing
 pub mod Entries
 pub mod Rising
@@ -7,3 +8,4 @@ pub mod Blocks
 pub mod Found
 pub mod Bound
 pub mod First
+pub mod Counted

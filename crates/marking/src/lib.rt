@@ -3,6 +3,8 @@
 
 // VALUE words held against the ranges of the net.
 pub mod values;
+// A value held against a RANGE word.
+pub mod range;
 // The order of entries and colours.
 pub mod order;
 // One entry of a marking.

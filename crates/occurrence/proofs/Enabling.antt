@@ -15,8 +15,6 @@ use Rattle.semantics.specs.Marking.{Entry, countsOf}
 use Rattle.semantics.specs.Enabling as enabling
 use Rattle.semantics.specs.Enabling.{covers, coversAll}
 use Rattle.semantics.proofs.Tests.{false-true}
-use Rattle.net.specs.declared.index.TransitionIndex.{TransitionIndex}
-use Rattle.net.specs.Index.{outlined}
 use Rattle.net.specs.Places.{placesAt, PlacesFit}
 use Rattle.net.proofs.Placed.{width-at}
 use Rattle.occurrence.specs.declared.flow.Flow.{Flow}
@@ -55,44 +53,44 @@ flows-some {r = r} f d = sym (f .same) ∙ ap (λ (t : Bool). given t (flowsOf r
 
 -- ── Enabling ──
 
-module _ (ws ps : List ℕ) (t : TransitionIndex) (ms begins bs : List ℕ) {gs : List ℕ} (i : gs ≡ outlined t .guard) {g : Bool} (h : g ≡ guardAt ws bs gs) where
-  pub enabled-unguarded : not g ≡ true → IsEnabledAt ws ps t ms begins bs false
-  enabled-unguarded d = record { enabled = λ places e es next m b. let k : guardAt ws bs (outlined t .guard) ≡ false = ap (guardAt ws bs) (sym i) ∙ sym h ∙ not-true _ d in rw k }
+module _ (ws ps gs is ms begins bs : List ℕ) {g : Bool} (h : g ≡ guardAt ws bs gs) where
+  pub enabled-unguarded : not g ≡ true → IsEnabledAt ws ps gs is ms begins bs false
+  enabled-unguarded d = record { enabled = λ places e es next m b. let k : guardAt ws bs gs ≡ false = sym h ∙ not-true _ d in rw k }
 
-  module _ (d : not g ≡ false) {is : List ℕ} (j : is ≡ outlined t .inputs) {r : Flows} (f : IsFlows ws ps bs is r) where
-    guarded : guardAt ws bs (outlined t .guard) ≡ true
-    guarded = ap (guardAt ws bs) (sym i) ∙ sym h ∙ not-false _ d
+  module _ (d : not g ≡ false) {r : Flows} (f : IsFlows ws ps bs is r) where
+    guarded : guardAt ws bs gs ≡ true
+    guarded = sym h ∙ not-false _ d
 
-    pub enabled-unmoved : not (r .some) ≡ true → IsEnabledAt ws ps t ms begins bs false
-    enabled-unmoved n = record { enabled = λ places e es next m b. let k : flowsAt ws ps bs (outlined t .inputs) ≡ none = ap (flowsAt ws ps bs) (sym j) ∙ flows-none f n in rw (guarded, k) }
+    pub enabled-unmoved : not (r .some) ≡ true → IsEnabledAt ws ps gs is ms begins bs false
+    enabled-unmoved n = record { enabled = λ places e es next m b. rw (guarded, flows-none f n) }
 
-    pub enabled-covered : {u : Bool} → not (r .some) ≡ false → PlacesFit ws ps → IsCovered r ms begins u → IsEnabledAt ws ps t ms begins bs u
-    enabled-covered n p c = record {
-      enabled = λ places e es next m b.
-          let k : flowsAt ws ps bs (outlined t .inputs) ≡ some (flowsOf r) = ap (flowsAt ws ps bs) (sym j) ∙ flows-some f n in
-          rw (guarded, k) (c .covered places es next m b (rw e (flows-fitted p f)));
-    }
+    pub enabled-covered : {u : Bool} → not (r .some) ≡ false → PlacesFit ws ps → IsCovered r ms begins u → IsEnabledAt ws ps gs is ms begins bs u
+    enabled-covered n p c = record { enabled = λ places e es next m b. rw (guarded, flows-some f n) (c .covered places es next m b (rw e (flows-fitted p f))) }
 
 -- ── What is taken ──
 
-module _ (ws ps : List ℕ) (t : TransitionIndex) (ms begins bs : List ℕ) where
-  none-taken : {r : Flows} → r .some ≡ false → IsEnabledAt ws ps t ms begins bs false → IsTaken ws ps t ms begins bs r
-  none-taken {r} e f = record { enabled = subst (IsEnabledAt ws ps t ms begins bs) (sym e) f; flows = λ d. false-true (sym e ∙ d) }
+module _ (ws ps gs is ms begins bs : List ℕ) where
+  none-taken : {r : Flows} → r .some ≡ false → IsEnabledAt ws ps gs is ms begins bs false → IsTaken ws ps gs is ms begins bs r
+  none-taken {r} e f = record { enabled = subst (IsEnabledAt ws ps gs is ms begins bs) (sym e) f; flows = λ d. false-true (sym e ∙ d) }
 
-  module _ {gs : List ℕ} (i : gs ≡ outlined t .guard) {g : Bool} (h : g ≡ guardAt ws bs gs) where
-    pub taken-unguarded : {r : Flows} → not g ≡ true → r .some ≡ false → IsTaken ws ps t ms begins bs r
-    taken-unguarded d e = none-taken e (enabled-unguarded ws ps t ms begins bs i h d)
+  module _ {g : Bool} (h : g ≡ guardAt ws bs gs) where
+    pub taken-unguarded : {r : Flows} → not g ≡ true → r .some ≡ false → IsTaken ws ps gs is ms begins bs r
+    taken-unguarded d e = none-taken e (enabled-unguarded ws ps gs is ms begins bs h d)
 
-    module _ (d : not g ≡ false) {is : List ℕ} (j : is ≡ outlined t .inputs) {r : Flows} (f : IsFlows ws ps bs is r) where
-      pub taken-unmoved : {s : Flows} → not (r .some) ≡ true → s .some ≡ false → IsTaken ws ps t ms begins bs s
-      taken-unmoved n e = none-taken e (enabled-unmoved ws ps t ms begins bs i h d j f n)
+    module _ (d : not g ≡ false) {r : Flows} (f : IsFlows ws ps bs is r) where
+      pub taken-unmoved : {s : Flows} → not (r .some) ≡ true → s .some ≡ false → IsTaken ws ps gs is ms begins bs s
+      taken-unmoved n e = none-taken e (enabled-unmoved ws ps gs is ms begins bs h d f n)
 
       module _ (n : not (r .some) ≡ false) (p : PlacesFit ws ps) {u : Bool} (c : IsCovered r ms begins u) where
-        pub taken-uncovered : {s : Flows} → not u ≡ true → s .some ≡ false → IsTaken ws ps t ms begins bs s
-        taken-uncovered k e = none-taken e (subst (IsEnabledAt ws ps t ms begins bs) (not-true u k) (enabled-covered ws ps t ms begins bs i h d j f n p c))
+        pub taken-uncovered : {s : Flows} → not u ≡ true → s .some ≡ false → IsTaken ws ps gs is ms begins bs s
+        taken-uncovered k e = none-taken e (subst (IsEnabledAt ws ps gs is ms begins bs) (not-true u k) (enabled-covered ws ps gs is ms begins bs h d f n p c))
 
-        pub taken-covered : not u ≡ false → IsTaken ws ps t ms begins bs r
+        pub taken-covered : not u ≡ false → IsTaken ws ps gs is ms begins bs r
         taken-covered k = record {
-          enabled = subst (IsEnabledAt ws ps t ms begins bs) (not-false u k ∙ sym (not-false (r .some) n)) (enabled-covered ws ps t ms begins bs i h d j f n p c);
-          flows = λ e. subst (λ (l : List ℕ). IsFlows ws ps bs l r) j f;
+          enabled = subst (IsEnabledAt ws ps gs is ms begins bs) (not-false u k ∙ sym (not-false (r .some) n)) (enabled-covered ws ps gs is ms begins bs h d f n p c);
+          flows = λ e. f;
         }
+
+-- at other positions that are the same
+pub taken-same : {ws ps gs is ms begins bs : List ℕ} {r : Flows} {gs′ is′ : List ℕ} → gs ≡ gs′ → is ≡ is′ → IsTaken ws ps gs is ms begins bs r → IsTaken ws ps gs′ is′ ms begins bs r
+taken-same {ws} {ps} {gs} {is} {ms} {begins} {bs} {r} {gs′} {is′} e f t = subst (λ (l : List ℕ). IsTaken ws ps gs′ l ms begins bs r) f (subst (λ (l : List ℕ). IsTaken ws ps l is ms begins bs r) e t)

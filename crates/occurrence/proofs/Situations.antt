@@ -151,6 +151,7 @@ module _ (ws ms : List ℕ) (t : ℕ) (i : NetIndex) (x : netRead i ≡ changed 
                 entries = es;
                 end = n;
                 accepted = is-accepted;
+                named = known .1;
                 few = omega (arith, few, b);
                 placed = rw (b, c) placed;
                 fits = rw (b, c, places-same) (index-fits ws i skims full wide net next reads);

@@ -75,7 +75,7 @@ module _ {ws : List ℕ} {t : ℕ} {ms : List ℕ} {s : Situation} (p : Prepared
       pub bound-lent : lent bs ≡ bound (bound-read .0)
       bound-lent = binding-lent bs (bound-read .0) (is-binding .words) (ranged-small ws (s .transition .variables) (s .position + 1) (bound-read .0) (rw variables-same (is-binding .ranged)))
 
-      pub enabled-told : {u : Bool} {begins : List ℕ} → begins ≡ s .begins → IsEnabledAt ws (take (s .places) (s .«places_at»)) (s .transition) ms begins bs u → u ≡ isEnabled houseTable (p .transition) (countsOf (p .entries)) (bound-read .0)
+      pub enabled-told : {u : Bool} {begins : List ℕ} → begins ≡ s .begins → IsEnabledAt ws (take (s .places) (s .«places_at»)) (outlined (s .transition) .guard) (outlined (s .transition) .inputs) ms begins bs u → u ≡ isEnabled houseTable (p .transition) (countsOf (p .entries)) (bound-read .0)
       unfolding isEnabled
       enabled-told g f =
           let h = f .enabled (p .net .places) (p .placed) (p .entries) (p .end) (p .marked) (rw g (p .begins)) in
@@ -88,6 +88,6 @@ module _ {ws : List ℕ} {t : ℕ} {ms : List ℕ} {s : Situation} (p : Prepared
           ∙ ap (λ (l : List ℕ). guardAt ws bs (map (λ (c : Conjunct). c .position) (p .transition .guard)) && coversAll (countsOf (p .entries)) (flowsAt ws (take (s .places) (s .«places_at»)) bs l)) i′
           ∙ rw (i, j, bound-lent)
 
-      pub test-answers : {u : Bool} {begins : List ℕ} → begins ≡ s .begins → IsEnabledAt ws (take (s .places) (s .«places_at»)) (s .transition) ms begins bs u → yesOrNo u ≡ testCall ws t ms bs
+      pub test-answers : {u : Bool} {begins : List ℕ} → begins ≡ s .begins → IsEnabledAt ws (take (s .places) (s .«places_at»)) (outlined (s .transition) .guard) (outlined (s .transition) .inputs) ms begins bs u → yesOrNo u ≡ testCall ws t ms bs
       unfolding testCall
       test-answers g f = rw (p .same, bound-read .1) (ap yesOrNo (enabled-told g f))

@@ -16,8 +16,6 @@ use Rattle.semantics.specs.Order.{sameTuple}
 use Rattle.semantics.specs.Marking.{Entry, countsOf}
 use Rattle.semantics.specs.Enabling as enabling
 use Rattle.marking.specs.Marked.{markingRead, Begins}
-use Rattle.net.specs.declared.index.TransitionIndex.{TransitionIndex}
-use Rattle.net.specs.Index.{outlined}
 use Rattle.net.specs.Places.{widthAt, placesAt}
 use Rattle.occurrence.specs.declared.flow.Components.{Components}
 use Rattle.occurrence.specs.declared.flow.Coefficient.{Coefficient}
@@ -100,10 +98,10 @@ pub record IsCovered (flows : Flows) (ws begins : List ℕ) (r : Bool) : Type 0 
 -- ── Enabling ──
 
 -- "A binding is enabled when ..", told from positions, in a marking with these beginnings
-pub record IsEnabledAt (ws ps : List ℕ) (t : TransitionIndex) (ms begins bs : List ℕ) (r : Bool) : Type 0 where
-  pub enabled : (places : List Place) → places ≡ placesAt ws ps → (es : List Entry) (next : ℕ) → markingRead places ms ≡ read es next → Begins es begins → r ≡ (guardAt ws bs (outlined t .guard) && enabling.coversAll (countsOf es) (flowsAt ws ps bs (outlined t .inputs)))
+pub record IsEnabledAt (ws ps conjuncts inputs ms begins bs : List ℕ) (r : Bool) : Type 0 where
+  pub enabled : (places : List Place) → places ≡ placesAt ws ps → (es : List Entry) (next : ℕ) → markingRead places ms ≡ read es next → Begins es begins → r ≡ (guardAt ws bs conjuncts && enabling.coversAll (countsOf es) (flowsAt ws ps bs inputs))
 
 -- what an enabled binding takes; none exactly where it is not enabled
-pub record IsTaken (ws ps : List ℕ) (t : TransitionIndex) (ms begins bs : List ℕ) (r : Flows) : Type 0 where
-  pub enabled : IsEnabledAt ws ps t ms begins bs (r .some)
-  pub flows : r .some ≡ true → IsFlows ws ps bs (outlined t .inputs) r
+pub record IsTaken (ws ps conjuncts inputs ms begins bs : List ℕ) (r : Flows) : Type 0 where
+  pub enabled : IsEnabledAt ws ps conjuncts inputs ms begins bs (r .some)
+  pub flows : r .some ≡ true → IsFlows ws ps bs inputs r

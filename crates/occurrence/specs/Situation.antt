@@ -3,7 +3,8 @@
 use mathlib.Core.Path.{_≡_}
 use Prim.Native.Nat.{ℕ, _≤_}
 use mathlib.Core.List.{List}
-use lib.ListN.{length, take}
+use mathlib.Core.Option.{some}
+use lib.ListN.{length, getElem?, take}
 use Rattle.semantics.specs.Reading.{Reading, read, refused}
 use Rattle.semantics.specs.Net.{Transition, Net}
 use Rattle.semantics.specs.ReadNet.{readTransition}
@@ -26,6 +27,7 @@ pub record Prepared (ws : List ℕ) (t : ℕ) (ms : List ℕ) (r : Situation) : 
   pub entries : List Entry
   pub end : ℕ
   pub accepted : acceptNet ws ≡ read net whole
+  pub named : getElem? (net .transitions) t ≡ some transition
   pub few : r .places ≤ 64
   pub placed : net .places ≡ placesAt ws (take (r .places) (r .«places_at»))
   pub fits : PlacesFit ws (take (r .places) (r .«places_at»))

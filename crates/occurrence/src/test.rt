@@ -1,5 +1,5 @@
 // The call test: whether a binding of a transition is enabled in a marking.
-use crate::enabled::is_enabled;
+use crate::enabled::taken;
 use crate::situation::prepare;
 use expression::read::Skipped;
 use marking::binding::read_binding;
@@ -23,7 +23,8 @@ pub fn test(net: &[u32], transition: u32, marking: &[u32], binding: &[u32]) -> T
                     let places = s.places;
                     let places_at = s.places_at;
                     let begins = s.begins;
-                    if is_enabled(net, &places_at[..places], t, marking, &begins[..], binding) {
+                    let flows = taken(net, &places_at[..places], t, marking, &begins[..], binding);
+                    if flows.some {
                         return Tested::Yes;
                     }
                     Tested::No

@@ -417,3 +417,41 @@ enabled-laws table t m b e = record { marked = enabled-marks table t m b e; equa
 -- T3: a plan without fault loses no enabled binding.
 pub enabled-leaf : (table : List ℕ) (net : Net) (t : Transition) (m : Counts) (b : List ℤ) → planFault t [] (t .plan) ≡ none → Proper net m → inRanges (t .variables) b ≡ true → Enabled table t m b → List·Memᴰ (map some b) (leaves table net t m)
 enabled-leaf table net t m b h proper inside e = leaf-of table net t m b h (enabled-laws table t m b e) proper inside
+
+-- ── A search step by step ──
+
+-- a partial binding at the elements that are left: they have no fault with what it has bound, and its values are in range
+pub record Sound (t : Transition) (es : List Element) (p : Partial) : Type 0 where
+  pub bound-so-far : List ℕ
+  pub faultless : planFault t bound-so-far es ≡ none
+  pub ranged : Ranged t p
+  pub tracks : Tracks p bound-so-far
+
+pub sound-empty : (t : Transition) → planFault t [] (t .plan) ≡ none → Sound t (t .plan) (empty t)
+sound-empty t h = record { bound-so-far = []; faultless = h; ranged = empty-ranged t; tracks = empty-tracks t }
+
+-- the next element binds a variable
+pub sound-fits : {t : Transition} {e : Element} {es : List Element} {p : Partial} → Sound t (e ∷ es) p → (n : ℕ) × ((ns : List ℕ) × (newlyBound t (isBoundIn p) (e .sort) ≡ n ∷ ns))
+sound-fits {t} {e} {es} {p} s =
+    let f = plan-fit t (s .bound-so-far) e es (s .faultless) in
+    let same : isBoundIn p ≡ member (s .bound-so-far) = fun-ext (λ n. s .tracks .tracked n) in
+    (f .first, (f .others, rw same (f .binds)))
+
+-- a try that goes on is sound for the elements after it
+pub sound-next : (table : List ℕ) (net : Net) (m : Counts) {t : Transition} {e : Element} {es : List Element} {p : Partial} → Sound t (e ∷ es) p → (q : Partial) → List·Memᴰ (some q) (tries table net t m (e .sort) p) → Sound t es q
+sound-next table net m {t} {e} {es} {p} s q j =
+    let f = plan-fit t (s .bound-so-far) e es (s .faultless) in
+    let same : isBoundIn p ≡ member (s .bound-so-far) = fun-ext (λ n. s .tracks .tracked n) in
+    let g = tries-go table net t m (e .sort) p q (member (s .bound-so-far)) (f .first) (f .others) same (f .binds) j in
+    record {
+      bound-so-far = (f .first ∷ f .others) ++ s .bound-so-far;
+      faultless = f .rest;
+      ranged = tries-ranged table net t m p q (f .first ∷ f .others) (member (s .bound-so-far)) g (s .ranged);
+      tracks = tries-track table net t m p q (f .first ∷ f .others) (s .bound-so-far) g (s .ranged) (s .tracks);
+    }
+
+-- at the end it is a full binding in range
+pub sound-leaf : {t : Transition} {p : Partial} → Sound t [] p → (b : List ℤ) × (p ≡ map some b) × (inRanges (t .variables) b ≡ true)
+sound-leaf {t} {p} s =
+    let f = everyBelow-at (length (t .variables)) (member (s .bound-so-far)) (plan-full t (s .bound-so-far) (s .faultless)) in
+    ranged-full (t .variables) p (s .ranged .long) (s .ranged .ranged) (λ n i. s .tracks .tracked n ∙ f n (rw (s .ranged .long) at i))

@@ -1,10 +1,10 @@
--- `firing::fit::from_low` meets its contract.
+-- `marking::range::from_low` meets its contract.
 use mathlib.Core.Path.{refl}
 use mir.Facts.{toZ-ofZ}
 use Rattle.word.proofs.Read.{read-back}
 use borrow.Author.Needs.{needs}
-use Rattle.firing.proofs.fit.from_low.Statement.{statement}
-use Rattle.firing.proofs.fit.from_low.Tie as tie
+use Rattle.marking.proofs.range.from_low.Statement.{statement}
+use Rattle.marking.proofs.range.from_low.Tie as tie
 
 returns : tie.Need-returns
 returns c =

@@ -1,9 +1,9 @@
--- `firing::fit::in_range` meets its contract: the low end, then the high end.
+-- `marking::range::in_range` meets its contract: the low end, then the high end.
 use mir.Facts.{toZ-ofZ}
-use Rattle.firing.proofs.Fitting.{range-low, range-high}
+use Rattle.marking.proofs.Ranging.{range-low, range-high}
 use borrow.Author.Needs.{needs}
-use Rattle.firing.proofs.fit.in_range.Statement.{statement}
-use Rattle.firing.proofs.fit.in_range.Tie as tie
+use Rattle.marking.proofs.range.in_range.Statement.{statement}
+use Rattle.marking.proofs.range.in_range.Tie as tie
 
 returns : tie.Need-returns
 returns c = range-low (c .before .before .args .range) (c .before .before .args .z) (simp (toZ-ofZ (c .before .before .fits .z)) at (c .before .from-low .ensures)) (c .if1 .taken)

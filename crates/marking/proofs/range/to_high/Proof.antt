@@ -1,10 +1,10 @@
--- `firing::fit::to_high` meets its contract.
+-- `marking::range::to_high` meets its contract.
 use mathlib.Core.Path.{refl}
 use mir.Facts.{toZ-ofZ}
 use Rattle.word.proofs.Read.{read-back}
 use borrow.Author.Needs.{needs}
-use Rattle.firing.proofs.fit.to_high.Statement.{statement}
-use Rattle.firing.proofs.fit.to_high.Tie as tie
+use Rattle.marking.proofs.range.to_high.Statement.{statement}
+use Rattle.marking.proofs.range.to_high.Tie as tie
 
 returns : tie.Need-returns
 returns c =
