@@ -1,0 +1,12 @@
+pub mod Slots
+pub mod Binding
+pub mod Agreeing
+pub mod Ranging
+pub mod Solving
+pub mod Parting
+pub mod Aiming
+pub mod Arriving
+pub mod Attempting
+pub mod Heads
+pub mod Colours
+pub mod Tries

@@ -1,0 +1,5 @@
+pub mod Partial
+pub mod Solve
+pub mod Range
+pub mod Step
+pub mod World

@@ -1,0 +1,111 @@
+// A match try: a colour that stands in the marking held against the components of an arc, told by their first words.
+use crate::partial::Tried;
+use expression::evaluate::value_of;
+use marking::range::in_range;
+use word::fields::kind;
+use word::fields::payload;
+use word::fields::signed;
+use word::fields::value_word;
+use word::number::Number;
+use word::number::equal;
+ghost use mathlib.Core.Path.{_≡_};
+ghost use Prim.Native.Nat.{_≤_, _+_};
+ghost use lib.ListN.{length, take};
+ghost use Rattle.semantics.specs.Tries.{agree, partly};
+ghost use Rattle.net.specs.Places.{rangesFrom};
+ghost use Rattle.marking.specs.Marked.{valuesAt};
+ghost use Rattle.tries.specs.Partial.{partialOf, tried, partTry, matchedBy, IsMet, metIf};
+
+// How a component of a colour stands to one of an arc: it agrees, it differs, or a variable takes it, as a VALUE word.
+pub enum Met {
+    Agrees,
+    Differs,
+    Takes(usize, u32),
+}
+
+// Whether two values agree.
+fn met_if(same: bool) -> Met
+    ensures { λ r. ⌜ r ≡ metIf same ⌝ }
+{
+    if same {
+        return Met::Agrees;
+    }
+    Met::Differs
+}
+
+// A lone variable meets a component: an old value agrees, a new one is in range.
+fn meet_variable(net: &[u32], ranges: usize, variables: usize, b: &[u32], n: usize, z: i32) -> Met
+    requires { ⌜ (variables ≤ length (now b)) × (ranges + variables ≤ length (now net)) ⌝ }
+    ensures { λ r. ⌜ IsMet variables (now (b .entry)) (agree (rangesFrom (now (net .entry)) variables ranges) (partialOf variables (now (b .entry))) n (partly (partialOf variables (now (b .entry))) n) z) r ⌝ }
+{
+    if variables <= n {
+        return Met::Differs;
+    }
+    match value_of(b[n]) {
+        Number::Some(old) => met_if(equal(old, z)),
+        Number::None => {
+            if !in_range(net[ranges + n], z) {
+                return Met::Differs;
+            }
+            Met::Takes(n, value_word(z))
+        }
+    }
+}
+
+// A component told by its first word: a constant or a lone variable agrees, one with operators waits.
+fn meet_part(net: &[u32], ranges: usize, variables: usize, b: &[u32], part: u32, z: i32) -> Met
+    requires { ⌜ (variables ≤ length (now b)) × (ranges + variables ≤ length (now net)) ⌝ }
+    ensures { λ r. ⌜ IsMet variables (now (b .entry)) (partTry (rangesFrom (now (net .entry)) variables ranges) part z (partialOf variables (now (b .entry)))) r ⌝ }
+{
+    match kind(part) {
+        7 => met_if(equal(signed(part), z)),
+        8 => meet_variable(net, ranges, variables, b, payload(part) as usize, z),
+        0..=6 | 9..=15 => Met::Agrees,
+        _ => Met::Agrees,
+    }
+}
+
+// The colour at a position of the marking held against `width` components.
+pub fn match_colour(
+    net: &[u32],
+    ranges: usize,
+    variables: usize,
+    marking: &[u32],
+    at: usize,
+    width: usize,
+    parts: [u32; 4],
+    b: [u32; 8],
+) -> Tried
+    requires { ⌜ (variables ≤ 8) × (ranges + variables ≤ length (now net)) ⌝ }
+    requires { ⌜ (width ≤ 4) × (at + width ≤ length (now marking)) ⌝ }
+    ensures { λ r. ⌜ tried variables r ≡ matchedBy (rangesFrom (now (net .entry)) variables ranges) (take width parts) (valuesAt (now (marking .entry)) width at) (partialOf variables b) ⌝ }
+{
+    let mut cur = b;
+    let mut i = 0;
+    while i < width {
+        match meet_part(
+            net,
+            ranges,
+            variables,
+            &cur[..],
+            parts[i],
+            signed(marking[at + i]),
+        ) {
+            Met::Agrees => {}
+            Met::Differs => {
+                return Tried {
+                    on: false,
+                    binding: cur,
+                };
+            }
+            Met::Takes(n, w) => {
+                cur[n] = w;
+            }
+        }
+        i += 1;
+    }
+    Tried {
+        on: true,
+        binding: cur,
+    }
+}

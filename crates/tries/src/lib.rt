@@ -1,0 +1,12 @@
+// The tries of a plan's elements: what an arrival at an element tries, and the partial binding that each try goes on with.
+
+// Partial bindings.
+pub mod partial;
+// A match try: a colour held against the components of an arc.
+pub mod colour;
+// A solve try: a variable takes the value of the other side of an equation.
+pub mod solve;
+// A range try: a variable takes each value of its range.
+pub mod range;
+// An arrival at an element, and its tries.
+pub mod step;
