@@ -1,0 +1,10 @@
+pub mod Settling
+pub mod Trying
+pub mod Leafing
+pub mod Worlds
+pub mod Values
+pub mod Steps
+pub mod Walking
+pub mod Clearing
+pub mod Listing
+pub mod Menus

@@ -1,0 +1,103 @@
+-- The rules of the search: at the end of the plan it is a leaf, and before it the tries of the next element. What they come to is what semantics says of
+-- the plan from the partial binding on.
+use mathlib.Core.Path.{_≡_, refl, sym, ap, _∙_, subst}
+use mathlib.Core.Bool.{Bool, true, false}
+use mathlib.Core.List.{List, [], _∷_, map, List·Memᴰ}
+use mathlib.Core.Option.{Option, none, some}
+use Prim.Native.Nat.{ℕ, zero, suc, _+_, _≤_, _<_}
+use native.Mathlib.Omega.{arith}
+use lib.IntN.{ℤ}
+use lib.ListN.{length, getD, take, drop, drop-of-length-le}
+use Rattle.semantics.specs.Lists.{Every, consIf}
+use Rattle.semantics.specs.Word.{payload, bits}
+use Rattle.semantics.specs.Expression.{given, houseTable}
+use Rattle.semantics.specs.Net.{Element}
+use Rattle.semantics.specs.ReadNet.{sortOf}
+use Rattle.semantics.specs.Order.{inRanges}
+use Rattle.semantics.specs.Enabling.{isEnabled}
+use Rattle.semantics.specs.Tries.{Partial, bindingOf, tries, countTries}
+use Rattle.semantics.specs.Calls.{Situation}
+use Rattle.semantics.proofs.Leaves.{Sound, sound-fits, sound-next, sound-leaf}
+use Rattle.semantics.proofs.Menu.{binding-full}
+use Rattle.accept.specs.declared.element.Element.{Element as CodeElement}
+use Rattle.accept.specs.Plan.{sorted}
+use Rattle.rows.specs.Rows.{valuesOfWords, IsValue, Listing, listingOf}
+use Rattle.tries.specs.declared.partial.Tried.{Tried}
+use Rattle.tries.specs.declared.step.Step.{Step}
+use Rattle.tries.specs.Partial.{partialOf, tried}
+use Rattle.tries.specs.Step.{Safe, Ready, triesBy, IsArrival}
+use Rattle.tries.specs.World.{World}
+use Rattle.tries.proofs.Tries.{arrival-ready, arrival-tries, tries-length}
+use Rattle.search.specs.declared.progress.Progress.{Progress}
+use Rattle.search.specs.Search.{costFrom, rowsFrom, Held, Unspent, Ended, IsLeaf}
+use Rattle.search.proofs.Trying.{rowsOver}
+use Rattle.search.proofs.Worlds.{next-element, as-many}
+use Rattle.search.proofs.Values.{slots-values, enabled-told}
+use Rattle.search.proofs.Steps.{cost-step, rows-step, cost-leaf, rows-leaf, at-number}
+
+-- the same, of costs and rows that are equal
+pub ended-same : {w most budget n : ℕ} {m : List ℕ} {t : ℕ} {l : Listing} {cost : ℕ} {rows : List (List ℤ)} {s′ : Progress} {m′ : List ℕ} {cost′ : ℕ} {rows′ : List (List ℤ)} → cost′ ≡ cost → rows′ ≡ rows → Ended w most budget n m t l cost rows s′ m′ → Ended w most budget n m t l cost′ rows′ s′ m′
+ended-same {w} {most} {budget} {n} {m} {t} {l} {cost} {rows} {s′} {m′} {cost′} {rows′} e f h =
+    subst (λ (k : ℕ). Ended w most budget n m t l k rows′ s′ m′) (sym e) (subst (λ (rs : List (List ℤ)). Ended w most budget n m t l cost rs s′ m′) (sym f) h)
+
+module _ {ws ps : List ℕ} {position v : ℕ} {inputs conjuncts elements ms begins : List ℕ} {s : Situation} (W : World ws ps position v inputs conjuncts elements ms begins s) (d : ℕ) (b : List ℕ) (S : Sound (s .transition) (drop d (s .transition .plan)) (partialOf v b)) where
+  -- ── At the end of the plan ──
+
+  module _ (h : d ≡ length elements) where
+    none-left : drop d (s .transition .plan) ≡ []
+    none-left = let a = as-many W in drop-of-length-le (s .transition .plan) {i = d} (omega arith)
+
+    full : (zs : List ℤ) × (partialOf v b ≡ map some zs) × (inRanges (s .transition .variables) zs ≡ true)
+    full = sound-leaf (subst (λ (es : List Element). Sound (s .transition) es (partialOf v b)) none-left S)
+
+    pub leaf-values : Every IsValue (take v b)
+    leaf-values = slots-values (take v b) (full .0) (full .1) .1
+
+    pub walked-leaf : {most budget : ℕ} {c : Progress} {m : List ℕ} {r : Progress} {m′ : List ℕ} → length (take v b) ≡ v → Unspent budget c → IsLeaf ws ps conjuncts inputs ms begins v most b c m r m′ → Ended v most budget (c .rows) m (c .tries) (listingOf v (c .rows) (c .full) m) (costFrom s (drop d (s .transition .plan)) (partialOf v b)) (rowsFrom s (drop d (s .transition .plan)) (partialOf v b)) r m′
+    walked-leaf {budget = budget} l u i =
+        let zs = full .0 in
+        let f : bindingOf (partialOf v b) ≡ zs = ap bindingOf (full .1) ∙ binding-full zs in
+        let g : valuesOfWords (take v b) ≡ zs = slots-values (take v b) zs (full .1) .0 in
+        ended-same (ap (λ (es : List Element). costFrom s es (partialOf v b)) none-left ∙ cost-leaf s (partialOf v b))
+        (ap (λ (es : List Element). rowsFrom s es (partialOf v b)) none-left ∙ rows-leaf s (partialOf v b) ∙ ap (λ (ys : List ℤ). consIf (isEnabled houseTable (s .transition) (s .counts) ys) ys []) f ∙ ap (λ (ys : List ℤ). consIf (isEnabled houseTable (s .transition) (s .counts) zs) ys []) (sym g))
+        (i .ended budget u (isEnabled houseTable (s .transition) (s .counts) zs) (enabled-told W b zs (full .1) l))
+
+  -- ── At an element ──
+
+  -- the tries of a step, and what they come to
+  pub record Stepping (step : Step) : Type 0 where
+    pub cost : costFrom s (drop d (s .transition .plan)) (partialOf v b) ≡ countTries (costFrom s (drop (d + 1) (s .transition .plan))) (tries houseTable (s .net) (s .transition) (s .counts) (sorted (step .element .sort)) (partialOf v b))
+    pub rows : rowsFrom s (drop d (s .transition .plan)) (partialOf v b) ≡ rowsOver (rowsFrom s (drop (d + 1) (s .transition .plan))) (tries houseTable (s .net) (s .transition) (s .counts) (sorted (step .element .sort)) (partialOf v b))
+    pub count : length (tries houseTable (s .net) (s .transition) (s .counts) (sorted (step .element .sort)) (partialOf v b)) ≡ step .count
+    pub same : triesBy ws (position + 1) v ms step (partialOf v b) ≡ tries houseTable (s .net) (s .transition) (s .counts) (sorted (step .element .sort)) (partialOf v b)
+    pub sound : (q : Partial) (i : ℕ) → i < length (tries houseTable (s .net) (s .transition) (s .counts) (sorted (step .element .sort)) (partialOf v b)) → getD (tries houseTable (s .net) (s .transition) (s .counts) (sorted (step .element .sort)) (partialOf v b)) i none ≡ some q → Sound (s .transition) (drop (d + 1) (s .transition .plan)) q
+    pub safe : Safe ms v step
+    pub ready : Ready ws v step
+
+  pub stepping : {e : CodeElement} {step : Step} → d < length elements → sorted (e .sort) ≡ sortOf (bits 8 9 (payload (getD ws (getD elements d 0) 0))) (bits 0 7 (payload (getD ws (getD elements d 0) 0))) → IsArrival ws ps position v inputs conjuncts ms begins e step → Stepping step
+  stepping {e} {step} h k A =
+      let n = next-element W d h in
+      let S′ = subst (λ (es : List Element). Sound (s .transition) es (partialOf v b)) (n .ahead) S in
+      let f = sound-fits S′ in
+      let g : sorted (e .sort) ≡ n .element .sort = k ∙ sym (n .there .sort) in
+      let j : sorted (step .element .sort) ≡ sorted (e .sort) = ap (λ (x : CodeElement). sorted (x .sort)) (A .element) in
+      let t : triesBy ws (position + 1) v ms step (partialOf v b) ≡ tries houseTable (s .net) (s .transition) (s .counts) (sorted (e .sort)) (partialOf v b) = arrival-tries W A (partialOf v b) (f .0) (f .1 .0) (rw g (f .1 .1)) in
+      let u : triesBy ws (position + 1) v ms step (partialOf v b) ≡ tries houseTable (s .net) (s .transition) (s .counts) (sorted (step .element .sort)) (partialOf v b) = t ∙ ap (λ x. tries houseTable (s .net) (s .transition) (s .counts) x (partialOf v b)) (sym j) in
+      let o : tries houseTable (s .net) (s .transition) (s .counts) (n .element .sort) (partialOf v b) ≡ tries houseTable (s .net) (s .transition) (s .counts) (sorted (step .element .sort)) (partialOf v b) = ap (λ x. tries houseTable (s .net) (s .transition) (s .counts) x (partialOf v b)) (sym (j ∙ g)) in
+      record {
+        cost = ap (λ (es : List Element). costFrom s es (partialOf v b)) (n .ahead) ∙ cost-step s (n .element) (drop (d + 1) (s .transition .plan)) (partialOf v b) ∙ ap (countTries (costFrom s (drop (d + 1) (s .transition .plan)))) o;
+        rows = ap (λ (es : List Element). rowsFrom s es (partialOf v b)) (n .ahead) ∙ rows-step s (n .element) (drop (d + 1) (s .transition .plan)) (partialOf v b) ∙ ap (rowsOver (rowsFrom s (drop (d + 1) (s .transition .plan)))) o;
+        count = ap length (sym u) ∙ tries-length ws (position + 1) v ms step (partialOf v b);
+        same = u;
+        sound = λ q i l x. sound-next houseTable (s .net) (s .counts) S′ q (subst (λ (os : List (Option Partial)). List·Memᴰ (some q) os) (sym o) (at-number (tries houseTable (s .net) (s .transition) (s .counts) (sorted (step .element .sort)) (partialOf v b)) i none (some q) l x));
+        safe = A .safe;
+        ready = arrival-ready W A;
+      }
+
+  -- a try of the code, among them
+  module _ {step : Step} (P : Stepping step) (i : ℕ) (r : Tried) (x : tried v r ≡ getD (triesBy ws (position + 1) v ms step (partialOf v b)) i none) where
+    pub try-on : r .on ≡ true → getD (tries houseTable (s .net) (s .transition) (s .counts) (sorted (step .element .sort)) (partialOf v b)) i none ≡ some (partialOf v (r .binding))
+    try-on e = ap (λ (os : List (Option Partial)). getD os i none) (sym (P .same)) ∙ sym x ∙ ap (λ (u : Bool). given u (partialOf v (r .binding))) e
+
+    pub try-off : r .on ≡ false → getD (tries houseTable (s .net) (s .transition) (s .counts) (sorted (step .element .sort)) (partialOf v b)) i none ≡ none
+    try-off e = ap (λ (os : List (Option Partial)). getD os i none) (sym (P .same)) ∙ sym x ∙ ap (λ (u : Bool). given u (partialOf v (r .binding))) e

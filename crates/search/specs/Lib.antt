@@ -1,0 +1,3 @@
+pub mod Scene
+pub mod Search
+pub mod Menu

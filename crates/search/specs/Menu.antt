@@ -1,0 +1,30 @@
+-- How many rows a menu has room for, and what listing the enabled bindings answers.
+-- Rests on semantics/specs/{Run, Calls} and Scene.
+use mathlib.Core.Path.{_≡_}
+use mathlib.Core.Bool.{cond}
+use mathlib.Core.List.{List}
+use Prim.Native.Nat.{ℕ, _/_, min}
+use lib.Dec.{eqb}
+use lib.ListN.{length, take}
+use Rattle.semantics.specs.declared.Listed.{Listed}
+use Rattle.semantics.specs.Refusal.{mostBindings}
+use Rattle.semantics.specs.Expression.{houseTable}
+use Rattle.semantics.specs.Run.{offer}
+use Rattle.semantics.specs.Calls.{Situation, listedBy}
+use Rattle.net.specs.declared.index.TransitionIndex.{TransitionIndex}
+use Rattle.net.specs.Index.{outlined}
+use Rattle.tries.specs.World.{World}
+use Rattle.search.specs.Scene.{sceneOf}
+use Rattle.search.specs.Search.{menuEnd}
+
+-- "N over 16,383, or N × V words over the menu buffer": the rows of a width that so many words hold
+abbrev pub mostRows : ℕ → ℕ → ℕ
+mostRows room width = cond (eqb width 0) mostBindings (min (room / width) mostBindings)
+
+-- what the code knows of the transition at a position and of a marking
+pub record Listable (ws ps : List ℕ) (position : ℕ) (t : TransitionIndex) (ms begins : List ℕ) : Type 0 where
+  pub world : World ws ps position (t .variables) (outlined t .inputs) (outlined t .guard) (outlined t .plan) ms begins (sceneOf ws position ms)
+
+-- the menu of the transition at a position, and the buffer after it
+pub record IsListed (ws : List ℕ) (position : ℕ) (ms : List ℕ) (budget : ℕ) (buffer : List ℕ) (r : Listed) (after : List ℕ) : Type 0 where
+  pub listed : menuEnd r after ≡ listedBy buffer (offer houseTable (sceneOf ws position ms .net) budget (length buffer) (sceneOf ws position ms .transition) (sceneOf ws position ms .counts))

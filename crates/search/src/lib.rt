@@ -1,0 +1,10 @@
+// The search for enabled bindings over the plan of a transition, and the call menu.
+
+// What a search has come to so far.
+pub mod progress;
+// A full binding: a row of the menu, where it is enabled.
+pub mod leaf;
+// The search, by recursion over the plan.
+pub mod walk;
+// The call menu.
+pub mod menu;

@@ -1,0 +1,117 @@
+// The search: from a partial binding over the rest of the plan, each try counted against the budget.
+use crate::leaf::leaf;
+use crate::progress::Progress;
+use accept::element::Element;
+use accept::element::element_of;
+use tries::step::arrive;
+use tries::step::try_at;
+use word::fields::payload;
+ghost use mathlib.Core.Path.{_≡_};
+ghost use Prim.Native.Nat.{_≤_, _<_};
+ghost use lib.ListN.{length, getD, drop};
+ghost use Rattle.semantics.specs.Word.{payload, bits};
+ghost use Rattle.semantics.specs.ReadNet.{sortOf};
+ghost use Rattle.semantics.proofs.Leaves.{Sound};
+ghost use Rattle.accept.specs.Plan.{sorted};
+ghost use Rattle.rows.specs.Rows.{listingOf};
+ghost use Rattle.tries.specs.Partial.{partialOf};
+ghost use Rattle.tries.specs.World.{World};
+ghost use Rattle.search.specs.Scene.{sceneOf};
+ghost use Rattle.search.specs.Search.{costFrom, rowsFrom, Held, Unspent, Ended};
+
+// The element at a position.
+fn element_at(net: &[u32], at: usize) -> Element
+    requires { ⌜ at < length (now net) ⌝ }
+    ensures { λ r. ⌜ sorted (r .sort) ≡ sortOf (bits 8 9 (payload (getD (now (net .entry)) at 0))) (bits 0 7 (payload (getD (now (net .entry)) at 0))) ⌝ }
+{
+    element_of(payload(net[at]))
+}
+
+// Walks the plan from the element `depth` on.
+pub fn walk(
+    net: &[u32],
+    places: &[usize],
+    position: usize,
+    variables: usize,
+    conjuncts: &[usize],
+    inputs: &[usize],
+    elements: &[usize],
+    marking: &[u32],
+    begins: &[usize],
+    depth: usize,
+    b: [u32; 8],
+    menu: &mut [u32],
+    most: usize,
+    budget: u32,
+    s: Progress,
+) -> Progress
+    requires { ⌜ World (now net) (now places) position variables (now inputs) (now conjuncts) (now elements) (now marking) (now begins) (sceneOf (now net) position (now marking)) ⌝ }
+    requires { ⌜ depth ≤ length (now elements) ⌝ }
+    requires { ⌜ Sound (sceneOf (now net) position (now marking) .transition) (drop depth (sceneOf (now net) position (now marking) .transition .plan)) (partialOf variables b) ⌝ }
+    requires { ⌜ Held variables most (s .rows) (now menu) ⌝ }
+    requires { ⌜ Unspent budget s ⌝ }
+    ensures { λ r. ⌜ Ended variables most budget (s .rows) (now (menu .entry)) (s .tries) (listingOf variables (s .rows) (s .full) (now (menu .entry))) (costFrom (sceneOf (now (net .entry)) position (now (marking .entry))) (drop depth (sceneOf (now (net .entry)) position (now (marking .entry)) .transition .plan)) (partialOf variables b)) (rowsFrom (sceneOf (now (net .entry)) position (now (marking .entry))) (drop depth (sceneOf (now (net .entry)) position (now (marking .entry)) .transition .plan)) (partialOf variables b)) r (now (menu .exit)) ⌝ }
+{
+    if depth == elements.len() {
+        return leaf(
+            net,
+            places,
+            conjuncts,
+            inputs,
+            marking,
+            begins,
+            variables,
+            b,
+            menu,
+            most,
+            s,
+        );
+    }
+    let step = arrive(
+        net,
+        places,
+        position,
+        variables,
+        inputs,
+        conjuncts,
+        marking,
+        begins,
+        element_at(net, elements[depth]),
+    );
+    let mut cur = s;
+    let mut i = 0;
+    while i < step.count {
+        let t = cur.tries;
+        if budget <= t {
+            cur.spent = true;
+            return cur;
+        }
+        cur.tries = t + 1;
+        let one = try_at(net, position + 1, variables, marking, step, b, i);
+        if one.on {
+            let next = one.binding;
+            cur = walk(
+                net,
+                places,
+                position,
+                variables,
+                conjuncts,
+                inputs,
+                elements,
+                marking,
+                begins,
+                depth + 1,
+                next,
+                menu,
+                most,
+                budget,
+                cur,
+            );
+            if cur.spent {
+                return cur;
+            }
+        }
+        i += 1;
+    }
+    cur
+}
