@@ -18,6 +18,12 @@ static const uint32_t marking[] = {0xB0000014, 0xC0000000}; /* twenty tokens of 
 
 #define WORDS(a) (sizeof(a) / sizeof(a)[0])
 
+/* the value of a VALUE word, 14 bits two's complement */
+static int32_t value_of(uint32_t word) {
+    int32_t bits = (int32_t)(word & 0x3FFF);
+    return bits < 0x2000 ? bits : bits - 0x4000;
+}
+
 int main(void) {
     uint64_t position, rest;
     uint32_t refusal = gimletlemon_check(net, WORDS(net), &position);
@@ -40,6 +46,14 @@ int main(void) {
         refusal = gimletlemon_test(net, WORDS(net), 0, marking, WORDS(marking), binding, WORDS(binding), &enabled, &position);
         printf("(12, %" PRIu32 "): refusal %" PRIu32 ", %s\n", second, refusal, enabled ? "enabled" : "not enabled");
     }
+
+    /* every binding that is enabled */
+    uint32_t menu[16];
+    uint64_t bindings, tries;
+    refusal = gimletlemon_menu(net, WORDS(net), 0, marking, WORDS(marking), 1000, menu, WORDS(menu), &bindings, &tries, &position);
+    printf("menu: refusal %" PRIu32 ", %" PRIu64 " bindings, %" PRIu64 " tries:", refusal, bindings, tries);
+    for (uint64_t i = 0; i < bindings; i++) printf(" (%" PRId32 ", %" PRId32 ")", value_of(menu[2 * i]), value_of(menu[2 * i + 1]));
+    printf("\n");
 
     const uint32_t binding[] = {0xC000000B, 0xC0000008};
     uint32_t next[8];

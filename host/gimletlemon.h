@@ -114,6 +114,30 @@ uint32_t gimletlemon_fire(const uint32_t *net, size_t net_length, uint32_t trans
                           const uint32_t *binding, size_t binding_length, uint32_t *next, size_t next_length, uint64_t *length,
                           uint64_t *position);
 
+/*
+ * The menu of a transition: every binding that is enabled in a marking, each once. Returns 0 and writes the bindings to the front of `menu`, their
+ * number and the tries of the search; or returns a refusal from 1 to 7, or 10 or 11.
+ *
+ * With V variables a binding is V VALUE words, that of variable 0 first, as gimletlemon_test and gimletlemon_fire take them: the binding with index
+ * i is menu[i * V] to menu[i * V + V - 1]. Bindings rise by the value of variable 0, then 1 and on; values are signed, so that -1 comes before 0.
+ * A transition without variables has one binding, of no words: *bindings is 1 where it is enabled and 0 where not, and nothing is written to `menu`.
+ *
+ *   budget             how many tries the search may make; one that needs more is given up and refused with 10. A try is a colour that a match
+ *                      looks at, a solve, or a value of a range; how many are needed depends on the plan and the marking, and the call's time
+ *                      grows with them
+ *   menu, menu_length  the buffer for the bindings; it overlaps no other slice. What happens to it:
+ *                        returned 0         the first *bindings * V words are the bindings; words beyond stay
+ *                        returned 1 to 7    all of it stays
+ *                        returned 10, 11    all of it is zero, and holds no part of the menu
+ *                      16,383 * V words are always enough, 131,064 for any transition; more bindings are refused with 11 whatever the length
+ *   bindings           where the number of bindings is written, 0 where the call is refused; 0 is also the answer where none is enabled
+ *   tries              where the number of tries is written, at most the budget, 0 where the call is refused. With the same net, transition and
+ *                      marking it is the same for every budget that suffices
+ *   the rest           as for gimletlemon_test
+ */
+uint32_t gimletlemon_menu(const uint32_t *net, size_t net_length, uint32_t transition, const uint32_t *marking, size_t marking_length,
+                          uint32_t budget, uint32_t *menu, size_t menu_length, uint64_t *bindings, uint64_t *tries, uint64_t *position);
+
 #ifdef __cplusplus
 }
 #endif

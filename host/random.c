@@ -97,31 +97,43 @@ static unsigned random_arc(struct words *w, const unsigned *widths, unsigned pla
     return c.positive ? lone : 0;
 }
 
+/* what plans need of a transition: its numbers, the variables that matches bind, and its guard */
+struct outline {
+    unsigned variables, inputs, conjuncts, matches[8], relation[8];
+    struct shape left[8], right[8];
+};
+
+/* the variables that an element binds; none where it does not fit */
+static unsigned element_binds(const struct outline *t, unsigned sort, unsigned k, unsigned bound) {
+    unsigned set = 0;
+    if (sort == 0 && k < t->inputs) set = t->matches[k] & ~bound;
+    if (sort == 1 && k < t->conjuncts && t->relation[k] == 0) {
+        const struct shape *left = &t->left[k], *right = &t->right[k];
+        if (left->alone >= 0 && (right->variables & ~bound) == 0) set = 1u << left->alone & ~bound;
+        if (set == 0 && right->alone >= 0 && (left->variables & ~bound) == 0) set = 1u << right->alone & ~bound;
+    }
+    if (sort == 2 && k < t->variables) set = 1u << k & ~bound;
+    return set;
+}
+
 static void random_transition(struct words *w, const unsigned *widths, unsigned places, int large) {
     unsigned v = (unsigned)random_below(one_in(8) || large ? 9 : 4), i = (unsigned)random_below(one_in(8) || large ? 9 : 4);
     unsigned o = (unsigned)random_below(one_in(8) || large ? 9 : 4), g = (unsigned)random_below(one_in(8) || large ? 9 : 3);
-    unsigned matches[8], elements = 0, bound = 0, all = (1u << v) - 1;
-    struct shape left[8], right[8];
-    unsigned relation[8];
+    unsigned elements = 0, bound = 0, all = (1u << v) - 1;
+    struct outline t = {.variables = v, .inputs = i, .conjuncts = g};
     size_t at = w->length;
     push(w, 0);
     for (unsigned k = 0; k < v; k++) random_range(w);
-    for (unsigned k = 0; k < i; k++) matches[k] = random_arc(w, widths, places, v, large);
+    for (unsigned k = 0; k < i; k++) t.matches[k] = random_arc(w, widths, places, v, large);
     for (unsigned k = 0; k < o; k++) random_arc(w, widths, places, v, large);
     for (unsigned k = 0; k < g; k++) {
-        relation[k] = (unsigned)random_below(4);
-        push(w, 0x60000000u | relation[k]);
-        random_expression(w, v, large ? 15 : 1 + (unsigned)random_below(7), &left[k]);
-        random_expression(w, v, large ? 15 : 1 + (unsigned)random_below(7), &right[k]);
+        t.relation[k] = (unsigned)random_below(4);
+        push(w, 0x60000000u | t.relation[k]);
+        random_expression(w, v, large ? 15 : 1 + (unsigned)random_below(7), &t.left[k]);
+        random_expression(w, v, large ? 15 : 1 + (unsigned)random_below(7), &t.right[k]);
     }
     while (bound != all) { /* elements are drawn until one fits */
-        unsigned sort = (unsigned)random_below(3), k = (unsigned)random_below(8), set = 0;
-        if (sort == 0 && k < i) set = matches[k] & ~bound;
-        if (sort == 1 && k < g && relation[k] == 0) {
-            if (left[k].alone >= 0 && (right[k].variables & ~bound) == 0) set = 1u << left[k].alone & ~bound;
-            if (set == 0 && right[k].alone >= 0 && (left[k].variables & ~bound) == 0) set = 1u << right[k].alone & ~bound;
-        }
-        if (sort == 2 && k < v) set = 1u << k & ~bound;
+        unsigned sort = (unsigned)random_below(3), k = (unsigned)random_below(8), set = element_binds(&t, sort, k, bound);
         if (set == 0) continue;
         bound |= set;
         elements++;
@@ -223,13 +235,10 @@ void random_marking(const struct net *net, size_t words, struct words *marking) 
     push_entries(net, es, n, marking);
 }
 
-void random_situation(const struct net *net, unsigned transition, struct words *marking, struct words *binding) {
-    const struct transition *t = &net->transition[transition];
-    struct entry es[64], flow;
-    int32_t values[8];
+/* a binding; a few draws for one under which the guard holds */
+static void draw_values(const struct transition *t, int32_t *values) {
     int holds = 0;
-    size_t n = 0;
-    for (unsigned tries = 0; tries < 20 && !holds; tries++) { /* a few draws for a binding under which the guard holds */
+    for (unsigned tries = 0; tries < 20 && !holds; tries++) {
         holds = 1;
         for (unsigned k = 0; k < t->variables; k++) values[k] = in_range_low(&t->range[k]);
         for (unsigned k = 0; k < t->conjuncts; k++) {
@@ -238,9 +247,11 @@ void random_situation(const struct net *net, unsigned transition, struct words *
             else if (t->guard[k].relation == 0 ? a != b : t->guard[k].relation == 1 ? a == b : t->guard[k].relation == 2 ? a >= b : a > b) holds = 0;
         }
     }
-    binding->length = 0;
-    for (unsigned k = 0; k < t->variables; k++) push(binding, ref_value_word(values[k]));
-    /* what the inputs take, summed by colour, now and then one too few; outputs near the largest count; others */
+}
+
+/* what the inputs take, added to entries by colour; answers how many entries there are then */
+static size_t add_inputs(const struct net *net, const struct transition *t, const int32_t *values, struct entry *es, size_t n) {
+    struct entry flow;
     for (unsigned k = 0; k < t->inputs; k++) {
         memset(&flow, 0, sizeof flow);
         if (!ref_flow(net, &t->input[k], values, &flow) || flow.count < 1 || !fits(net, &flow)) continue;
@@ -249,6 +260,18 @@ void random_situation(const struct net *net, unsigned transition, struct words *
         if (i == n) es[n++] = flow;
         else es[i].count += flow.count;
     }
+    return n;
+}
+
+void random_situation(const struct net *net, unsigned transition, struct words *marking, struct words *binding) {
+    const struct transition *t = &net->transition[transition];
+    struct entry es[64], flow;
+    int32_t values[8];
+    draw_values(t, values);
+    binding->length = 0;
+    for (unsigned k = 0; k < t->variables; k++) push(binding, ref_value_word(values[k]));
+    /* what the inputs take, now and then one too few; outputs near the largest count; others */
+    size_t n = add_inputs(net, t, values, es, 0);
     for (size_t i = 0; i < n; i++) {
         es[i].count += one_in(6) ? -1 : one_in(2) ? 0 : (int64_t)random_below(4);
         if (es[i].count < 1) es[i].count = 1;
@@ -287,6 +310,206 @@ void long_situation(struct words *net, struct words *marking, struct words *bind
     }
     if (one_in(3)) marking->length--;
     push(binding, ref_value_word(random_between(-8192, 10)));
+}
+
+/* ── Menus: narrow ranges, so that colours and values meet, about a middle that now and then is at the end of all values ── */
+
+static int32_t near(int32_t middle, int32_t low, int32_t high) {
+    int32_t v = middle + random_between(low, high);
+    return v < -8192 ? -8192 : v > 8191 ? 8191 : v;
+}
+
+static void narrow_range(struct words *w, int32_t middle, int32_t most) {
+    int32_t low = near(middle, -3, 1), high = low + random_between(0, most);
+    if (one_in(60)) low = random_between(-8192, low);
+    if (high > 8191) high = 8191;
+    push(w, 0x30000000u | ((uint32_t)low & 16383u) << 14 | ((uint32_t)high & 16383u));
+}
+
+/* a component or a side of a conjunct: mostly a variable alone, or a constant, or an expression with operators */
+static void menu_expression(struct words *w, int32_t middle, unsigned variables, struct shape *s) {
+    unsigned draw = (unsigned)random_below(20);
+    s->positive = 0;
+    s->alone = -1;
+    s->variables = 0;
+    if (middle != 0 && one_in(3)) draw = 17;
+    if (variables > 0 && draw < 13) {
+        s->alone = (int)random_below(variables);
+        s->variables = 1u << s->alone;
+        push(w, 0x80000000u | (unsigned)s->alone);
+    } else if (draw < 16) {
+        push(w, constant(near(middle, -3, 4)));
+    } else if (variables > 0 && draw < 18) { /* a variable and a little more or less */
+        unsigned k = (unsigned)random_below(variables);
+        s->variables = 1u << k;
+        push(w, 0x90000000u | (unsigned)random_below(2));
+        push(w, 0x80000000u | k);
+        push(w, constant(random_between(0, 3)));
+    } else {
+        random_expression(w, variables, 1 + (unsigned)random_below(7), s);
+    }
+}
+
+static unsigned menu_arc(struct words *w, int32_t middle, const unsigned *widths, unsigned places, unsigned variables) {
+    unsigned place = (unsigned)random_below(places), lone = 0, draw = (unsigned)random_below(20);
+    struct shape c = {0, -1, 0}, e;
+    push(w, 0x50000000u | place);
+    if (draw < 13) {
+        c.positive = 1;
+        push(w, constant(random_between(1, 2)));
+    } else if (draw < 15) {
+        push(w, constant(0));
+    } else if (draw < 17 && variables > 0) {
+        push(w, 0x80000000u | (unsigned)random_below(variables));
+    } else {
+        random_expression(w, variables, 1 + (unsigned)random_below(5), &c);
+    }
+    for (unsigned i = 0; i < widths[place]; i++) {
+        menu_expression(w, middle, variables, &e);
+        if (e.alone >= 0) lone |= 1u << e.alone;
+    }
+    return c.positive ? lone : 0;
+}
+
+/* Elements of a plan: the sort that is liked best and fits, with any number that fits. Answers how many. */
+static unsigned menu_plan(struct words *w, const struct outline *t, enum taste taste) {
+    static const unsigned liking[PLAN_TASTES][3] = {[MATCHES_FIRST] = {0, 1, 2}, [SOLVES_FIRST] = {1, 0, 2}, [RANGES_ONLY] = {2, 2, 2}};
+    unsigned elements = 0, bound = 0, all = (1u << t->variables) - 1;
+    while (bound != all) {
+        unsigned sort = 2, fitting = 0, shift = (unsigned)random_below(3);
+        for (unsigned i = 0; i < 3 && fitting == 0; i++) {
+            sort = taste == ANY_PLAN ? (i + shift) % 3 : liking[taste][i];
+            for (unsigned k = 0; k < 8; k++) fitting += element_binds(t, sort, k, bound) != 0;
+        }
+        unsigned which = (unsigned)random_below(fitting), k = 0;
+        for (;; k++)
+            if (element_binds(t, sort, k, bound) != 0 && which-- == 0) break;
+        bound |= element_binds(t, sort, k, bound);
+        elements++;
+        push(w, 0xA0000000u | sort << 8 | k);
+    }
+    return elements;
+}
+
+static void menu_transition(struct words *w, int32_t middle, const unsigned *widths, unsigned places, enum taste taste) {
+    unsigned v = one_in(10) ? (unsigned)random_below(9) : one_in(12) ? 0 : 1 + (unsigned)random_below(3);
+    unsigned i = one_in(10) ? (unsigned)random_below(9) : 1 + (unsigned)random_below(3);
+    unsigned g = (unsigned)random_below(one_in(15) ? 9 : taste == SOLVES_FIRST ? 4 : 3);
+    struct outline t = {.variables = v, .inputs = i, .conjuncts = g};
+    size_t at = w->length;
+    push(w, 0);
+    for (unsigned k = 0; k < v; k++) narrow_range(w, middle, v > 3 ? 2 : 6);
+    for (unsigned k = 0; k < i; k++) t.matches[k] = menu_arc(w, middle, widths, places, v);
+    for (unsigned k = 0; k < g; k++) {
+        t.relation[k] = one_in(2) || taste == SOLVES_FIRST ? 0 : (unsigned)random_below(4);
+        push(w, 0x60000000u | t.relation[k]);
+        menu_expression(w, middle, v, &t.left[k]);
+        menu_expression(w, middle, v, &t.right[k]);
+    }
+    unsigned elements = menu_plan(w, &t, taste);
+    if (at < ROOM) w->at[at] = 0x40000000u | elements << 16 | g << 12 | i << 4 | v;
+}
+
+/* any value of a narrow range; of all values one near either end, where a sum of 14 bits would come round */
+static int32_t menu_colour(const struct range *r, int32_t middle) {
+    if (middle == 0 || r->high - r->low < 16383) return in_range(r);
+    return near(one_in(2) ? -8190 : 8189, -2, 2);
+}
+
+void random_menu(enum taste taste, struct words *net, struct words *marking, uint32_t *transition) {
+    static struct net read;
+    struct entry es[256];
+    unsigned places = 1 + (unsigned)random_below(3), transitions = 1 + (unsigned)random_below(2), widths[64];
+    int32_t middle = one_in(8) ? (one_in(2) ? -8190 : 8188) : 0;
+    size_t n = 0, end;
+    net->length = marking->length = 0;
+    push(net, 0x10000000u | places << 8 | transitions);
+    for (unsigned i = 0; i < places; i++) {
+        widths[i] = 1 + (unsigned)random_below(one_in(4) ? 4 : 2);
+        push(net, 0x20000000u | widths[i]);
+        for (unsigned k = 0; k < widths[i]; k++) {
+            if (middle != 0 && one_in(2)) push(net, 0x38001FFFu);
+            else narrow_range(net, middle - 2, 9);
+        }
+    }
+    for (unsigned i = 0; i < transitions; i++) menu_transition(net, middle, widths, places, taste);
+    *transition = (uint32_t)random_below(transitions);
+    if (ref_read_net(net->at, net->length, &read, &end).number != 0) return;
+    /* what some bindings take, and other colours */
+    for (unsigned i = (unsigned)random_below(7); i > 0; i--) {
+        int32_t values[8];
+        draw_values(&read.transition[*transition], values);
+        n = add_inputs(&read, &read.transition[*transition], values, es, n);
+    }
+    for (size_t i = 0; i < n; i++)
+        if (es[i].count > MOST_COUNT) es[i].count = MOST_COUNT;
+    for (unsigned i = 0; i < places; i++) {
+        unsigned colours = one_in(8) ? 0 : 1 + (unsigned)random_below(one_in(8) ? 60 : 14);
+        for (unsigned k = 0; k < colours; k++, n++) {
+            memset(&es[n], 0, sizeof es[n]);
+            es[n].place = i;
+            es[n].count = random_between(1, 4);
+            for (unsigned c = 0; c < widths[i]; c++) es[n].colour[c] = menu_colour(&read.place[i].ranges[c], middle);
+        }
+    }
+    if (one_in(10)) { /* an empty place */
+        unsigned place = (unsigned)random_below(places);
+        size_t left = 0;
+        for (size_t i = 0; i < n; i++)
+            if (es[i].place != place) es[left++] = es[i];
+        n = left;
+    }
+    push_entries(&read, es, n, marking);
+}
+
+/* Ranges whose product is 16,383, 16,384 or 16,385, all bindings enabled, and a plan that takes the variables in any order. */
+static void wide_ranges(unsigned kind, struct words *net, struct words *marking) {
+    static const uint16_t sizes[][8] = {{16383}, {16384}, {128, 128}, {127, 129}, {43, 127, 3}, {5461, 3}, {3277, 5}, {8, 16, 16, 8}, {4, 4, 1, 4, 4, 4, 4, 4},
+                                        {3, 1, 43, 1, 127}, {5, 29, 113}, {2, 2, 2, 2, 2, 2, 2, 128}};
+    const uint16_t *size = sizes[kind % (sizeof sizes / sizeof sizes[0])];
+    unsigned v = 0, order[8];
+    while (v < 8 && size[v] > 0) v++;
+    push(net, 0x10000101u);
+    push(net, 0x20000001u);
+    push(net, 0x30000000u);
+    push(net, 0x40000010u | v << 16 | v);
+    for (unsigned k = 0; k < v; k++) {
+        int32_t low = random_between(-8192, 8192 - size[k]);
+        push(net, 0x30000000u | ((uint32_t)low & 16383u) << 14 | ((uint32_t)(low + size[k] - 1) & 16383u));
+        unsigned j = (unsigned)random_below(k + 1);
+        order[k] = order[j];
+        order[j] = k;
+    }
+    push(net, 0x50000000u);
+    push(net, constant(1));
+    push(net, constant(0));
+    for (unsigned k = 0; k < v; k++) push(net, 0xA0000200u | order[k]);
+    push(marking, ref_token_word(0, 1));
+    push(marking, ref_value_word(0));
+}
+
+/* One match of (x - x, x), or of (x, x - x), with up to four colours for each x: bindings are found repeatedly. */
+static void wide_match(struct words *net, struct words *marking) {
+    int32_t values = random_between(1, 1365), low = one_in(2) ? -700 : 0, first = one_in(2);
+    const uint32_t head[] = {0x10000101u, 0x20000002u, 0x38001FFFu, 0x38001FFFu, 0x40010011u, 0x38001FFFu, 0x50000000u, constant(1)};
+    const uint32_t zero[] = {0x90000001u, 0x80000000u, 0x80000000u};
+    for (size_t i = 0; i < sizeof head / sizeof head[0]; i++) push(net, head[i]);
+    if (!first) push(net, 0x80000000u);
+    for (size_t i = 0; i < 3; i++) push(net, zero[i]);
+    if (first) push(net, 0x80000000u);
+    push(net, 0xA0000000u);
+    for (int32_t i = 0; i < 4 * values; i++) {
+        int32_t x = low + (first ? i % values : i / 4), copy = (first ? i / values : i % 4) - 1;
+        push(marking, ref_token_word(0, (unsigned)random_between(1, 3)));
+        push(marking, ref_value_word(first ? copy : x));
+        push(marking, ref_value_word(first ? x : copy));
+    }
+}
+
+void wide_menu(unsigned kind, struct words *net, struct words *marking) {
+    net->length = marking->length = 0;
+    if (kind % 3 == 2) wide_match(net, marking);
+    else wide_ranges(kind / 3 * 2 + kind % 3, net, marking);
 }
 
 /* ── Damage ── */

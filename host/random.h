@@ -33,6 +33,16 @@ void random_marking(const struct net *net, size_t words, struct words *marking);
 /* a net of one place with all values, a marking of about 16,384 words, and a binding that moves a token to a colour that has none */
 void long_situation(struct words *net, struct words *marking, struct words *binding);
 
+/* what plans are drawn: matches where they fit and then solves, solves and then matches, ranges alone, or any */
+enum taste { MATCHES_FIRST, SOLVES_FIRST, RANGES_ONLY, ANY_PLAN, PLAN_TASTES };
+
+/* a good net with narrow ranges, a marking of it with many colours, and a transition: menus of some length */
+void random_menu(enum taste taste, struct words *net, struct words *marking, uint32_t *transition);
+
+/* a good net and a marking of it: the menu of transition 0 has 16,383 to 16,385 bindings, or some that a match finds repeatedly. Kinds from 0 on
+   have these by turns */
+void wide_menu(unsigned kind, struct words *net, struct words *marking);
+
 /* a word changed, dropped or added, a bit flipped, the end cut off or words put after it */
 void damage(struct words *w);
 

@@ -18,10 +18,10 @@
 
 /* ── What was tried ── */
 
-enum call { CHECK, SPLIT, CHECK_BYTES, TEST, TEST_BYTES, FIRE, CALLS };
+enum call { CHECK, SPLIT, CHECK_BYTES, TEST, TEST_BYTES, FIRE, MENU, CALLS };
 
-static const char *const names[CALLS] = {"check", "split", "check_bytes", "test", "test_bytes", "fire"};
-static uint64_t met[CALLS][17], yes[CALLS], seed = 20240229, rounds = 60000, now_round;
+static const char *const names[CALLS] = {"check", "split", "check_bytes", "test", "test_bytes", "fire", "menu"};
+static uint64_t met[CALLS][17], yes[CALLS], empty_menus, bindings_found, listed_menus, seed = 20240229, rounds = 60000, now_round;
 
 /* ── Buffers: after the last byte and before the first page comes a page that may not be touched ── */
 
@@ -30,7 +30,7 @@ struct buffer {
     size_t room;
 };
 
-static struct buffer net_buffer, marking_buffer, binding_buffer, next_buffer;
+static struct buffer net_buffer, marking_buffer, binding_buffer, next_buffer, menu_buffer;
 
 static void make(struct buffer *b, size_t room) {
     size_t page = (size_t)sysconf(_SC_PAGESIZE);
@@ -62,18 +62,25 @@ static void print_words(const char *what, const uint32_t *words, size_t length) 
 
 struct answer {
     struct refusal refusal;
-    uint64_t number; /* rest, enabled or length */
+    uint64_t number; /* rest, enabled, length or bindings */
+    uint64_t tries;  /* of a menu */
 };
 
 static void differs(enum call call, const char *what, struct answer library, struct answer reference) {
     printf("%s differs in %s, seed %" PRIu64 ", round %" PRIu64 "\n", names[call], what, seed, now_round);
-    printf("library:   refusal %" PRIu32 " at %" PRIu64 ", number %" PRIu64 "\n", library.refusal.number, library.refusal.position, library.number);
-    printf("reference: refusal %" PRIu32 " at %" PRIu64 ", number %" PRIu64 "\n", reference.refusal.number, reference.refusal.position, reference.number);
+    const struct answer *answers[] = {&library, &reference};
+    for (unsigned i = 0; i < 2; i++) {
+        printf("%s refusal %" PRIu32 " at %" PRIu64, i == 0 ? "library:  " : "reference:", answers[i]->refusal.number, answers[i]->refusal.position);
+        printf(", number %" PRIu64, answers[i]->number);
+        if (call == MENU) printf(", tries %" PRIu64, answers[i]->tries);
+        printf("\n");
+    }
 }
 
 /* Counts an answer; says whether library and reference agree. */
 static int agree(enum call call, struct answer library, struct answer reference) {
-    if (library.refusal.number != reference.refusal.number || library.refusal.position != reference.refusal.position || library.number != reference.number) {
+    if (library.refusal.number != reference.refusal.number || library.refusal.position != reference.refusal.position || library.number != reference.number ||
+        library.tries != reference.tries) {
         differs(call, "its answer", library, reference);
         return 0;
     }
@@ -105,7 +112,7 @@ static void fail_net(const struct words *net) {
 
 static void try_net(const struct words *net) {
     static uint8_t bytes[4 * ROOM + 4];
-    struct answer library = {{0, unwritten}, 0}, reference = {{0, 0}, 0};
+    struct answer library = {{0, unwritten}, 0, 0}, reference = {{0, 0}, 0, 0};
     uint32_t *lent = place(&net_buffer, net->at, 4 * net->length);
 
     library.refusal.number = gimletlemon_check(lent, net->length, &library.refusal.position);
@@ -151,7 +158,7 @@ static int kept(const void *lent, const void *was, size_t size) { return size ==
 
 static void try_test(const struct words *net, uint32_t transition, const struct words *marking, const struct words *binding) {
     static uint8_t net_bytes[4 * ROOM + 4], marking_bytes[4 * ROOM + 4], binding_bytes[4 * ROOM + 4];
-    struct answer library = {{0, unwritten}, unwritten}, reference = {{0, 0}, 0};
+    struct answer library = {{0, unwritten}, unwritten, 0}, reference = {{0, 0}, 0, 0};
     uint32_t *n = place(&net_buffer, net->at, 4 * net->length), *m = place(&marking_buffer, marking->at, 4 * marking->length);
     uint32_t *b = place(&binding_buffer, binding->at, 4 * binding->length);
     library.refusal.number = gimletlemon_test(n, net->length, transition, m, marking->length, b, binding->length, &library.number, &library.refusal.position);
@@ -184,7 +191,7 @@ static void try_test(const struct words *net, uint32_t transition, const struct 
 
 static void try_fire(const struct words *net, uint32_t transition, const struct words *marking, const struct words *binding) {
     static uint32_t before[ROOM], after[ROOM];
-    struct answer library = {{0, unwritten}, unwritten}, reference = {{0, 0}, 0};
+    struct answer library = {{0, unwritten}, unwritten, 0}, reference = {{0, 0}, 0, 0};
     /* room for any marking, about enough, or little */
     size_t room = random_below(2) == 0 ? MOST_WORDS : random_below(2) == 0 ? marking->length + random_below(6) : random_below(12);
     if (room > MOST_WORDS + 6) room = MOST_WORDS + 6;
@@ -218,6 +225,127 @@ static void try_situation(const struct words *net, uint32_t transition, const st
     try_fire(net, transition, marking, binding);
 }
 
+/* ── Menus ── */
+
+enum { MENU_ROOM = 8 * 16383 + 4096, LISTED = 4000 };
+
+static void fail_menu(const struct words *net, uint32_t transition, const struct words *marking, uint32_t budget, size_t room) {
+    printf("transition %" PRIu32 ", budget %" PRIu32 ", a buffer of %zu words\n", transition, budget, room);
+    print_words("marking", marking->at, marking->length);
+    fail_net(net);
+}
+
+/* The bindings that a lister of all bindings finds, if there are few enough to list. */
+struct list {
+    int known;
+    uint64_t bindings;
+    size_t length; /* in words */
+    uint32_t words[8 * LISTED];
+};
+
+/* What a call answered and left in the buffer, against the list. */
+static int same_list(const struct list *list, struct answer a, const uint32_t *menu, size_t room) {
+    if (!list->known || a.refusal.number == 10) return 1;
+    listed_menus++;
+    if (list->length > room) return a.refusal.number == 11;
+    return a.refusal.number == 0 && a.number == list->bindings && kept(menu, list->words, 4 * list->length);
+}
+
+static void try_menu(const struct words *net, uint32_t transition, const struct words *marking, uint32_t budget, size_t room, const struct list *list) {
+    static uint32_t before[MENU_ROOM], after[MENU_ROOM];
+    struct answer library = {{0, unwritten}, unwritten, unwritten}, reference = {{0, 0}, 0, 0};
+    for (size_t i = 0; i < room; i++) before[i] = (uint32_t)random_below(1ull << 32);
+    memcpy(after, before, 4 * room);
+    uint32_t *n = place(&net_buffer, net->at, 4 * net->length), *m = place(&marking_buffer, marking->at, 4 * marking->length);
+    uint32_t *menu = place(&menu_buffer, before, 4 * room);
+    uint8_t fence[64], *front = (uint8_t *)menu - sizeof fence;
+    memset(fence, 0x5A, sizeof fence);
+    memcpy(front, fence, sizeof fence);
+    library.refusal.number =
+        gimletlemon_menu(n, net->length, transition, m, marking->length, budget, menu, room, &library.number, &library.tries, &library.refusal.position);
+    reference.refusal =
+        ref_menu(net->at, net->length, transition, marking->at, marking->length, budget, after, room, &reference.number, &reference.tries);
+    if (!agree(MENU, library, reference)) fail_menu(net, transition, marking, budget, room);
+    if (!kept(menu, after, 4 * room) || !kept(front, fence, sizeof fence)) {
+        differs(MENU, "the buffer", library, reference);
+        print_words("buffer before", before, room);
+        print_words("library's buffer", menu, room);
+        print_words("reference's buffer", after, room);
+        fail_menu(net, transition, marking, budget, room);
+    }
+    if (!kept(n, net->at, 4 * net->length) || !kept(m, marking->at, 4 * marking->length)) {
+        differs(MENU, "the words lent", library, reference);
+        fail_menu(net, transition, marking, budget, room);
+    }
+    if (!same_list(list, library, menu, room)) {
+        differs(MENU, "what all bindings tested one by one give", library, reference);
+        print_words("library's buffer", menu, room);
+        printf("%" PRIu64 " bindings are enabled\n", list->bindings);
+        print_words("these", list->words, list->length);
+        fail_menu(net, transition, marking, budget, room);
+    }
+    empty_menus += reference.refusal.number == 0 && reference.number == 0;
+    bindings_found += reference.number;
+}
+
+/* The least budget with which a menu is not refused with 10: its tries, also where it is refused with 11. */
+static uint32_t least_budget(const struct words *net, uint32_t transition, const struct words *marking, uint32_t high) {
+    uint64_t bindings, tries;
+    uint32_t low = 0, word;
+    while (low < high) {
+        uint32_t middle = low + (high - low) / 2;
+        if (ref_menu(net->at, net->length, transition, marking->at, marking->length, middle, &word, 0, &bindings, &tries).number == 10) low = middle + 1;
+        else high = middle;
+    }
+    return low;
+}
+
+/* Menus with budgets and buffers that just suffice, just do not and do by far. Where more than `most` tries are needed, with less budget. */
+static void try_menus(const struct words *net, uint32_t transition, const struct words *marking, uint32_t most) {
+    static uint32_t words[MENU_ROOM];
+    static struct net read;
+    static struct list list;
+    uint64_t bindings, tries;
+    size_t end, room;
+    struct refusal r = ref_menu(net->at, net->length, transition, marking->at, marking->length, most, words, MENU_ROOM, &bindings, &tries);
+    list.known = 0;
+    if (r.number != 0 && r.number != 11) { /* the input is refused, whatever budget and buffer are; or `most` is too little a budget */
+        uint32_t budget = (uint32_t)random_below(r.number == 10 ? most : 1ull << random_below(33));
+        try_menu(net, transition, marking, budget, random_below(40), &list);
+        return;
+    }
+    if (ref_read_net(net->at, net->length, &read, &end).number != 0) exit(2);
+    unsigned variables = read.transition[transition].variables;
+    if (r.number == 11) { /* more than 16,383 bindings: no buffer is long enough */
+        uint32_t enough = least_budget(net, transition, marking, most);
+        room = 16385 * variables;
+        try_menu(net, transition, marking, enough, room, &list);
+        try_menu(net, transition, marking, enough - 1, room, &list);
+        try_menu(net, transition, marking, UINT32_MAX, room + 1 + random_below(50), &list);
+        try_menu(net, transition, marking, enough, random_below(room), &list);
+        return;
+    }
+    /* each binding is tested in a copy of the marking, so that with long markings fewer are listed */
+    uint64_t listed = marking->length < 200 ? LISTED : 200 * LISTED / marking->length;
+    list.known = ref_list_all(net->at, net->length, transition, marking->at, marking->length, listed, list.words, &list.bindings);
+    list.length = list.bindings * variables;
+
+    uint32_t exactly = (uint32_t)tries;
+    room = bindings * variables;
+    try_menu(net, transition, marking, exactly, room, &list);
+    try_menu(net, transition, marking, UINT32_MAX - (uint32_t)random_below(3), room + 1 + random_below(random_below(8) == 0 ? 3000 : 20), &list);
+    try_menu(net, transition, marking, exactly + (uint32_t)random_below(100), 0, &list);
+    if (exactly > 0) {
+        try_menu(net, transition, marking, exactly - 1, room + random_below(2), &list);
+        try_menu(net, transition, marking, (uint32_t)random_below(exactly), random_below(room + 40), &list);
+    }
+    if (room > 0) {
+        try_menu(net, transition, marking, exactly + (uint32_t)random_below(2), room - 1, &list);
+        try_menu(net, transition, marking, exactly, random_below(room), &list);
+        try_menu(net, transition, marking, exactly - 1, room - 1, &list); /* 10 goes before 11 */
+    }
+}
+
 /* ── Rounds ── */
 
 static struct words net, marking, binding, spoilt;
@@ -240,6 +368,10 @@ static void round_nets(int large) {
 static void round_sizes(void) {
     sized_net(&net, random_below(4) == 0 ? 4675 + random_below(43009) : MOST_WORDS - 2 + random_below(5));
     try_net(&net);
+    marking.length = 2;
+    marking.at[0] = ref_token_word(0, 3);
+    marking.at[1] = ref_value_word(0);
+    try_menus(&net, (uint32_t)random_below(70), &marking, 1000);
     size_t length = net.length;
     for (unsigned k = 0; k < 4; k++) {
         net.length = MOST_WORDS - 2 + random_below(5);
@@ -263,6 +395,7 @@ static void round_situations(size_t words) {
         random_situation(&read, transition, &marking, &binding);
         if (words > 0) random_marking(&read, words, &marking);
         try_situation(&net, transition, &marking, &binding);
+        if (k == 0) try_menus(&net, transition, &marking, 500);
         switch (random_below(8)) {
         case 0: damage(&net); break;
         case 1: transition = (uint32_t)(random_below(4) == 0 ? random_below(1ull << 32) : random_below(read.transitions + 2)); break;
@@ -277,11 +410,39 @@ static void round_situations(size_t words) {
 }
 
 /* markings of about 16,384 words */
-static void round_long(void) {
+static void round_long(int menus) {
     long_situation(&net, &marking, &binding);
     try_situation(&net, 0, &marking, &binding);
+    if (menus) try_menus(&net, 0, &marking, 20000);
     damage(&marking);
     try_situation(&net, 0, &marking, &binding);
+    if (menus) try_menus(&net, 0, &marking, 20000);
+}
+
+/* menus with a plan of some taste; then net, plan or marking damaged, or another transition */
+static void round_menus(enum taste taste) {
+    static uint32_t words[MENU_ROOM];
+    uint32_t transition;
+    uint64_t bindings = 0, tries;
+    for (unsigned draws = 0; draws < 5 && bindings == 0; draws++) { /* a few draws for a menu that is not empty */
+        random_menu(taste, &net, &marking, &transition);
+        ref_menu(net.at, net.length, transition, marking.at, marking.length, 3000, words, MENU_ROOM, &bindings, &tries);
+    }
+    try_menus(&net, transition, &marking, 3000);
+    spoilt.length = net.length;
+    memcpy(spoilt.at, net.at, 4 * net.length);
+    if (random_below(3) == 0) damage(&spoilt);
+    else damage_plan(&spoilt); /* now and then another plan that fits */
+    try_menus(&spoilt, transition, &marking, 3000);
+    if (random_below(3) == 0) transition = (uint32_t)(random_below(4) == 0 ? random_below(1ull << 32) : random_below(4));
+    else damage(&marking);
+    try_menus(&net, transition, &marking, 3000);
+}
+
+/* menus of about 16,383 bindings, and of long markings */
+static void round_wide(unsigned kind) {
+    wide_menu(kind, &net, &marking);
+    try_menus(&net, 0, &marking, 1000000);
 }
 
 int main(int argc, char **argv) {
@@ -291,13 +452,16 @@ int main(int argc, char **argv) {
     make(&marking_buffer, 4 * ROOM + 64);
     make(&binding_buffer, 4 * ROOM + 64);
     make(&next_buffer, 4 * ROOM + 64);
+    make(&menu_buffer, 4 * MENU_ROOM + 64);
     printf("seed %" PRIu64 ", %" PRIu64 " rounds\n", seed, rounds);
     for (now_round = 0; now_round < rounds; now_round++) {
         random_seed(seed + now_round);
         round_nets(now_round % 400 == 1);
         round_situations(now_round % 400 == 2 ? 1 + random_below(MOST_WORDS + 400) : 0);
-        if (now_round % 50 == 3) round_long();
+        if (now_round % 50 == 3) round_long(now_round % 1000 == 3);
         if (now_round % 50 == 0) round_sizes();
+        round_menus((enum taste)(now_round % PLAN_TASTES));
+        if (now_round % 200 == 4) round_wide((unsigned)(now_round / 200));
     }
     for (unsigned c = 0; c < CALLS; c++) {
         uint64_t sum = 0;
@@ -305,10 +469,12 @@ int main(int argc, char **argv) {
         if (sum == 0) continue;
         printf("%s: %" PRIu64 " tried, all the same:", names[c], sum);
         if (c == TEST || c == TEST_BYTES) printf(" %" PRIu64 " yes, %" PRIu64 " no", yes[c], met[c][0] - yes[c]);
+        else if (c == MENU) printf(" %" PRIu64 " found (%" PRIu64 " bindings; %" PRIu64 " menus without any)", met[c][0], bindings_found, empty_menus);
         else printf(" %" PRIu64 " accepted", met[c][0]);
         for (unsigned n = 1; n < 17; n++)
             if (met[c][n] > 0) printf(", %" PRIu64 " refused with %u", met[c][n], n);
         printf("\n");
     }
+    printf("menus also held against all bindings tested one by one: %" PRIu64 "\n", listed_menus);
     return 0;
 }

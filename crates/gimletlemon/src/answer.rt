@@ -1,9 +1,10 @@
 // Answers told to a C program: the refusal's number is returned, 0 for none, and the other numbers are written for the caller.
 use semantics::Fired;
+use semantics::Listed;
 use semantics::Tested;
 use semantics::Verdict;
 ghost use mathlib.Core.Path.{_≡_};
-ghost use Rattle.semantics.specs.Answer.{checkRefusal, testRefusal, testYes, fireRefusal, fireLength};
+ghost use Rattle.semantics.specs.Answer.{checkRefusal, testRefusal, testYes, menuRefusal, menuBindings, menuTries, fireRefusal, fireLength};
 ghost use Rattle.gimletlemon.specs.Told.{told};
 
 // What check answers: the position is written.
@@ -36,6 +37,28 @@ pub fn tell_test(answer: Tested, enabled: &mut u64, position: &mut u64) -> u32
         Tested::Refused(n, at) => {
             *position = at as u64;
             n
+        }
+    }
+}
+
+// What menu answers: the number of bindings, the tries and the position are written.
+pub fn tell_menu(answer: Listed, bindings: &mut u64, tries: &mut u64, position: &mut u64) -> u32
+    ensures { λ r. ⌜ told r (now (position .exit)) ≡ menuRefusal answer ⌝ }
+    ensures { λ r. ⌜ now (bindings .exit) ≡ menuBindings answer ⌝ }
+    ensures { λ r. ⌜ now (tries .exit) ≡ menuTries answer ⌝ }
+{
+    *bindings = 0;
+    *tries = 0;
+    *position = 0;
+    match answer {
+        Listed::Found(n, w) => {
+            *bindings = n as u64;
+            *tries = w as u64;
+            0
+        }
+        Listed::Refused(m, p) => {
+            *position = p as u64;
+            m
         }
     }
 }

@@ -8,5 +8,7 @@ pub mod answer;
 pub mod nets;
 // Test.
 pub mod test;
+// Menu.
+pub mod menu;
 // Fire.
 pub mod fire;
