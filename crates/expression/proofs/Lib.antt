@@ -1,5 +1,6 @@
 pub mod Heads
 pub mod Passing
 pub mod Evaluating
+pub mod Single
 pub mod Spelled
 pub mod Laws

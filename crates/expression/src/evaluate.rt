@@ -70,8 +70,8 @@ pub enum Evaluated {
     Nothing,
 }
 
-// Evaluates the expression at a position. Variable n is the VALUE word n of the binding; it has no value where another word stands there.
-pub fn evaluate(words: &[u32], binding: &[u32], at: usize) -> Evaluated
+// Evaluates the expression at a position, whatever it is.
+fn evaluate_any(words: &[u32], binding: &[u32], at: usize) -> Evaluated
     ensures { λ r. ⌜ evaluated r ≡ evaluatedFrom (lent (now (binding .entry))) (readExpression (now (words .entry)) (length (now (binding .entry))) at) ⌝ }
 {
     match evaluate_within(words, binding, at, MOST_EXPRESSION_WORDS) {
@@ -80,5 +80,22 @@ pub fn evaluate(words: &[u32], binding: &[u32], at: usize) -> Evaluated
             Number::None => Evaluated::NoValue(next),
         },
         Outcome::Nothing => Evaluated::Nothing,
+    }
+}
+
+// Evaluates the expression at a position. Variable n is the VALUE word n of the binding; it has no value where another word stands there.
+// A constant or a lone variable, the common case, is answered from its word.
+pub fn evaluate(words: &[u32], binding: &[u32], at: usize) -> Evaluated
+    ensures { λ r. ⌜ evaluated r ≡ evaluatedFrom (lent (now (binding .entry))) (readExpression (now (words .entry)) (length (now (binding .entry))) at) ⌝ }
+{
+    match head_at(words, binding.len(), at, MOST_EXPRESSION_WORDS) {
+        Head::Constant(z, at_c, _) => Evaluated::Value(z, at_c),
+        Head::Variable(n, at_v, _) => match value_of(binding[n]) {
+            Number::Some(x) => Evaluated::Value(x, at_v),
+            Number::None => Evaluated::NoValue(at_v),
+        },
+        Head::Binary(_, _, _) => evaluate_any(words, binding, at),
+        Head::Load(_, _) => evaluate_any(words, binding, at),
+        Head::Refused(_, _) => Evaluated::Nothing,
     }
 }

@@ -1,47 +1,42 @@
--- `expression::evaluate::evaluate` meets its contract: sixteen rounds are more than the fifteen words left.
-use mathlib.Core.Path.{_≡_, refl}
-use mathlib.Core.List.{List}
-use mathlib.Core.Option.{none, some}
-use Prim.Native.Nat.{ℕ, _+_}
-use native.Mathlib.Omega.{arith}
+-- `expression::evaluate::evaluate` meets its contract: a constant, a lone variable and a refusal by the head, the others by `evaluate_any`.
 use borrow.Author.Needs.{needs}
-use lib.IntN.{ℤ}
-use lib.ListN.{length}
-use Rattle.semantics.specs.Refusal.{mostExpressionWords}
-use Rattle.semantics.specs.ReadNet.{readExpression}
-use Rattle.word.specs.declared.number.Number.{Number}
-use Rattle.word.specs.declared.number.Number.the-variants.{Some, None}
-use Rattle.expression.specs.declared.evaluate.Outcome.{Outcome}
-use Rattle.expression.specs.declared.evaluate.Outcome.the-variants.{Gives, Nothing}
-use Rattle.expression.specs.Evaluate.{lent, valued, unread, evaluatedFrom, outcome, IsOutcome}
+use Rattle.expression.proofs.Heads.{in-range}
+use Rattle.expression.proofs.Single.{refused-whole, constant-whole, variable-value, variable-none}
 use Rattle.expression.proofs.evaluate.evaluate.Statement.{statement}
 use Rattle.expression.proofs.evaluate.evaluate.Tie as tie
 
-module _ {ws bs : List ℕ} {at : ℕ} {r : Outcome} (x : IsOutcome ws bs at mostExpressionWords r) where
-  whole : outcome r ≡ evaluatedFrom (lent bs) (readExpression ws (length bs) at)
-  unfolding readExpression
-  whole = x .same (mostExpressionWords + 1) (at + mostExpressionWords) (omega arith) refl
+returns : tie.Need-returns
+returns c = constant-whole (c .before .before .before .before .before .before .args .binding .now) (c .before .before .before .head-at .ensures) (c .before .z .given .1) (search needs)
 
-  value : {u : Number} {y z : ℤ} {a l : ℕ} → r ≡ Gives u a l → u ≡ Some z → y ≡ z → valued (some y) a ≡ evaluatedFrom (lent bs) (readExpression ws (length bs) at)
-  value e d i = rw i (rw (e, d) at whole)
+returns-2 : tie.Need-returns-2
+returns-2 c = variable-value (c .before .before .before .before .before .before .before .before .before .before .before .args .binding .now) (c .before .before .before .before .before .before .before .before .head-at .ensures) (c .before .before .before .before .before .before .n .given .1) (c .before .before .before .value-of .ensures) (c .before .x .given .1) (search needs)
 
-  no-value : {u : Number} {a l : ℕ} → r ≡ Gives u a l → u ≡ None → valued none a ≡ evaluatedFrom (lent bs) (readExpression ws (length bs) at)
-  no-value e d = rw (e, d) at whole
+returns-3 : tie.Need-returns-3
+returns-3 c = variable-none (c .before .before .before .before .before .before .before .before .before .before .args .binding .now) (c .before .before .before .before .before .before .before .head-at .ensures) (c .before .before .before .before .before .n .given .1) (c .before .before .value-of .ensures) (c .enum-told .given .1)
 
-  nothing : r ≡ Nothing → unread ≡ evaluatedFrom (lent bs) (readExpression ws (length bs) at)
-  nothing e = rw e at whole
-
-ruleset rules = (needs, value, no-value, nothing)
+returns-6 : tie.Need-returns-6
+returns-6 c = refused-whole (c .before .before .before .before .before .args .binding .now) (c .before .before .head-at .ensures) (c .enum-told4 .given .1)
 
 pub evaluate-spec : {M : Type 1} → statement M
 evaluate-spec =
     tie.close
     (tie.spec
-    (λ c. search rules)
-    (λ c. search rules)
-    (λ c. search rules)
-    (λ c. search rules)
-    (λ c. search rules)
-    (λ c. search rules)
-    (λ c. search rules)
-    (λ c. search rules))
+    (λ c κs. search needs)
+    (λ c. search needs)
+    (λ c. search needs)
+    (λ c. search (needs, in-range))
+    (λ c. search (needs, in-range))
+    (λ c κs. search needs)
+    (λ c. search needs)
+    (λ c. search needs)
+    (λ c. search needs)
+    (λ c κs. search needs)
+    (λ c. search needs)
+    (λ c κs. search needs)
+    (λ c. search needs)
+    returns
+    returns-2
+    returns-3
+    (λ c. search needs)
+    (λ c. search needs)
+    returns-6)

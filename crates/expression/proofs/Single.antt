@@ -1,0 +1,54 @@
+-- An evaluated expression as a whole: fifteen words are left at its start. A constant and a lone variable by their head alone, any other by its outcome.
+use mathlib.Core.Path.{_≡_, refl}
+use mathlib.Core.List.{List}
+use mathlib.Core.Option.{none, some}
+use Prim.Native.Nat.{ℕ, _+_}
+use native.Mathlib.Omega.{arith}
+use borrow.Author.Needs.{needs}
+use lib.IntN.{ℤ}
+use lib.ListN.{length, getD}
+use Rattle.semantics.specs.Refusal.{mostExpressionWords}
+use Rattle.semantics.specs.ReadNet.{readExpression}
+use Rattle.word.specs.declared.number.Number.{Number}
+use Rattle.word.specs.declared.number.Number.the-variants.{Some, None}
+use Rattle.word.specs.Number.{number}
+use Rattle.expression.specs.declared.head.Head.{Head}
+use Rattle.expression.specs.declared.head.Head.the-variants.{Constant, Variable, Refused}
+use Rattle.expression.specs.declared.evaluate.Outcome.{Outcome}
+use Rattle.expression.specs.declared.evaluate.Outcome.the-variants.{Gives, Nothing}
+use Rattle.expression.specs.Head.{IsHead}
+use Rattle.expression.specs.Evaluate.{valueOf, lent, valued, unread, evaluatedFrom, outcome, IsOutcome}
+use Rattle.expression.proofs.Evaluating.{refused-head, constant-head, variable-head}
+
+-- ── By the outcome ──
+
+module _ {ws bs : List ℕ} {at : ℕ} {r : Outcome} (x : IsOutcome ws bs at mostExpressionWords r) where
+  whole : outcome r ≡ evaluatedFrom (lent bs) (readExpression ws (length bs) at)
+  unfolding readExpression
+  whole = x .same (mostExpressionWords + 1) (at + mostExpressionWords) (omega arith) refl
+
+  pub value : {u : Number} {y z : ℤ} {a l : ℕ} → r ≡ Gives u a l → u ≡ Some z → y ≡ z → valued (some y) a ≡ evaluatedFrom (lent bs) (readExpression ws (length bs) at)
+  value e d i = rw i (rw (e, d) at whole)
+
+  pub no-value : {u : Number} {a l : ℕ} → r ≡ Gives u a l → u ≡ None → valued none a ≡ evaluatedFrom (lent bs) (readExpression ws (length bs) at)
+  no-value e d = rw (e, d) at whole
+
+  pub nothing : r ≡ Nothing → unread ≡ evaluatedFrom (lent bs) (readExpression ws (length bs) at)
+  nothing e = rw e at whole
+
+pub ruleset outcomes = (needs, value, no-value, nothing)
+
+-- ── By the head ──
+
+module _ {ws : List ℕ} (bs : List ℕ) {at : ℕ} {t : Head} (x : IsHead ws (length bs) at mostExpressionWords t) where
+  pub refused-whole : {n p : ℕ} → t ≡ Refused n p → unread ≡ evaluatedFrom (lent bs) (readExpression ws (length bs) at)
+  refused-whole e = nothing {bs = bs} (refused-head {bs = bs} x e) refl
+
+  pub constant-whole : {y z : ℤ} {a l : ℕ} → t ≡ Constant z a l → y ≡ z → valued (some y) a ≡ evaluatedFrom (lent bs) (readExpression ws (length bs) at)
+  constant-whole e d = value {bs = bs} (constant-head {bs = bs} x e d) refl refl refl
+
+  pub variable-value : {n a l : ℕ} {v : Number} {y z : ℤ} → t ≡ Variable n a l → number v ≡ valueOf (getD bs n 0) → v ≡ Some z → y ≡ z → valued (some y) a ≡ evaluatedFrom (lent bs) (readExpression ws (length bs) at)
+  variable-value e d f g = value {bs = bs} (variable-head {bs = bs} x e d) refl f g
+
+  pub variable-none : {n a l : ℕ} {v : Number} → t ≡ Variable n a l → number v ≡ valueOf (getD bs n 0) → v ≡ None → valued none a ≡ evaluatedFrom (lent bs) (readExpression ws (length bs) at)
+  variable-none e d f = no-value {bs = bs} (variable-head {bs = bs} x e d) refl f
