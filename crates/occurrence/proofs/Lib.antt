@@ -5,5 +5,6 @@ pub mod Flowing
 pub mod Reading
 pub mod Covering
 pub mod Enabling
+pub mod Tallying
 pub mod Situations
 pub mod Testing

@@ -1,3 +1,4 @@
 pub mod Flow
 pub mod Answers
+pub mod Tally
 pub mod Situation

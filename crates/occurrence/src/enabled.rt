@@ -4,6 +4,7 @@ use crate::flow::Flows;
 use crate::flow::flows_at;
 use crate::flow::no_flows;
 use crate::guard::guard_holds;
+use crate::tally::covers_inputs;
 use accept::plan::at_most;
 use net::index::TransitionIndex;
 ghost use mathlib.Core.Path.{_≡_};
@@ -42,7 +43,7 @@ pub fn takes(
     flows
 }
 
-// Whether the binding is enabled.
+// Whether the binding is enabled, without what it takes.
 pub fn is_enabled(
     net: &[u32],
     places: &[usize],
@@ -57,8 +58,10 @@ pub fn is_enabled(
     requires { ⌜ length (now inputs) ≤ 8 ⌝ }
     ensures { λ r. ⌜ IsEnabledAt (now (net .entry)) (now (places .entry)) (now (conjuncts .entry)) (now (inputs .entry)) (now (marking .entry)) (now (begins .entry)) (now (binding .entry)) r ⌝ }
 {
-    let flows = takes(net, places, conjuncts, inputs, marking, begins, binding);
-    flows.some
+    if !guard_holds(net, binding, conjuncts) {
+        return false;
+    }
+    covers_inputs(net, places, inputs, marking, begins, binding)
 }
 
 // What the input arcs of a transition take, where the binding is enabled.

@@ -62,7 +62,7 @@ pub enum Coefficient {
 }
 
 // The coefficient at a position.
-fn coefficient_at(net: &[u32], binding: &[u32], at: usize) -> Coefficient
+pub fn coefficient_at(net: &[u32], binding: &[u32], at: usize) -> Coefficient
     ensures { λ r. ⌜ coefficientRead r ≡ coefficientOf (lent (now (binding .entry))) (readExpression (now (net .entry)) (length (now (binding .entry))) at) ⌝ }
 {
     match evaluate(net, binding, at) {

@@ -6,6 +6,8 @@ pub mod guard;
 pub mod flow;
 // Whether a marking covers flows.
 pub mod cover;
+// What input arcs take, on lists of numbers.
+pub mod tally;
 // Whether a binding is enabled.
 pub mod enabled;
 // What the calls on a transition and a marking start from.
