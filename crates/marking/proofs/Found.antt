@@ -250,6 +250,10 @@ module _ (ws begins : List ℕ) (p : ℕ) (c : List ℤ) (few : p < 64) where
       pub spot-differs : t ≡ false → IsSpot ws begins p c (record { at = getD begins p 0 + i * (length c + 1); count = 0 })
       spot-differs d = spot 0 (λ es s. sym (rw d at (there es s)))
 
+-- the rank among as many entries, told by another number
+pub ranked-same : (ws : List ℕ) (n from : ℕ) {k q : ℕ} {c : List ℤ} {r : ℕ} → k ≡ q → IsRank (coloursAt ws n k from) c r → IsRank (coloursAt ws n q from) c r
+ranked-same ws n from {c = c} {r = r} e x = subst (λ (m : ℕ). IsRank (coloursAt ws n m from) c r) e x
+
 -- so many entries as fit stand inside the words
 pub rows-inside : (from to size end : ℕ) → from ≤ to → to ≤ end → from + (to - from) / size * size ≤ end
 rows-inside from to size end h k = let m = div-mul-le-self (to - from) size in omega arith

@@ -1,7 +1,8 @@
 // The count of a colour on a place, found by bisection among that place's entries.
 use crate::order::colour_before;
 use crate::order::colour_same;
-ghost use Prim.Native.Nat.{_≤_, _<_, _+_, _*_};
+ghost use mathlib.Core.Path.{_≡_};
+ghost use Prim.Native.Nat.{_≤_, _<_, _+_, _*_, _/_};
 ghost use lib.ListN.{length};
 ghost use Rattle.marking.specs.Marked.{coloursAt, IsRank, IsSpot};
 
@@ -22,6 +23,20 @@ fn rank(words: &[u32], from: usize, k: usize, colour: &[i32]) -> usize
         }
     }
     low
+}
+
+// How many entries of a size so many words have. A place has one to four components; a division by a known number is quick.
+fn entries(words: usize, size: usize) -> usize
+    requires { ⌜ 0 < size ⌝ }
+    ensures { λ r. ⌜ r ≡ words / size ⌝ }
+{
+    match size {
+        2 => words / 2,
+        3 => words / 3,
+        4 => words / 4,
+        5 => words / 5,
+        _ => words / size,
+    }
 }
 
 // Where an entry stands or would stand, and its count, 0 where there is none.
@@ -45,7 +60,7 @@ pub fn find(words: &[u32], begins: &[usize], place: usize, colour: &[i32]) -> Sp
         return Spot { at: from, count: 0 };
     }
     let size = colour.len() + 1;
-    let k = (to - from) / size;
+    let k = entries(to - from, size);
     let i = rank(words, from, k, colour);
     let at = from + i * size;
     if i < k {
