@@ -56,8 +56,8 @@ pub fn tell_menu(answer: Listed, bindings: &mut u64, tries: &mut u64, position: 
             *tries = w as u64;
             0
         }
-        Listed::Refused(m, p) => {
-            *position = p as u64;
+        Listed::Refused(m, word) => {
+            *position = word as u64;
             m
         }
     }
