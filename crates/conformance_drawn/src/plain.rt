@@ -3,7 +3,7 @@
 //
 // A flow, what an arc says under a binding, is five numbers: place, 1 if all its expressions have values and 0 if not, coefficient, components.
 use crate::draw::is_negative;
-use conformance_report::build::put;
+use conformance_plain::build::put;
 use std::num::wrapping_add_u32;
 use std::num::wrapping_sub_u32;
 

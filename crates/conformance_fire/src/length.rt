@@ -1,8 +1,8 @@
 // Nets and markings of 16,384 words and around, built by loops.
-use conformance_report::build::front;
-use conformance_report::build::put;
-use conformance_report::build::repeat;
-use conformance_report::build::write;
+use conformance_plain::build::front;
+use conformance_plain::build::put;
+use conformance_plain::build::repeat;
+use conformance_plain::build::write;
 use conformance_report::report::case;
 use conformance_report::report::heading;
 use conformance_report::report::long_case;

@@ -1,10 +1,10 @@
 // Outside cases of test and fire, worked out by an independent brute-force implementation of document 01. They stand in the file stdin beside this
 // folder and are read from standard input: a table for test, a line `=`, and a table for fire.
 use crate::table::Form;
-use crate::table::after;
-use crate::table::find;
-use crate::table::part;
 use crate::table::table;
+use conformance_plain::text::after;
+use conformance_plain::text::find;
+use conformance_plain::text::part;
 use conformance_report::report::heading;
 
 fn tables(text: &[u8]) {

@@ -1,7 +1,12 @@
 // Tables of cases, a line each, with bars between its fields: name, net, marking, binding, numbers. A table's nets begin with the words of its
 // head. The numbers are the transition and the room for the new marking, 0 and 24 where they are left out.
-use conformance_report::build::front;
-use conformance_report::build::write;
+use conformance_plain::build::front;
+use conformance_plain::build::write;
+use conformance_plain::text::after;
+use conformance_plain::text::bar_after;
+use conformance_plain::text::field;
+use conformance_plain::text::find;
+use conformance_plain::text::part;
 use conformance_report::report::case;
 use conformance_report::report::fire_case;
 use conformance_report::report::test_case;
@@ -15,56 +20,6 @@ pub enum Form {
 
 fn wide(w: u32) -> usize {
     w as usize
-}
-
-// The position of a byte from a start on, or the length where there is none.
-pub fn find(text: &[u8], start: usize, b: u8) -> usize {
-    let mut at = start;
-    while at < text.len() {
-        if text[at] == b {
-            return at;
-        }
-        at += 1;
-    }
-    text.len()
-}
-
-// A position moved on, as far as the text goes.
-pub fn after(text: &[u8], at: usize, bytes: usize) -> usize {
-    if at < text.len() {
-        if bytes < text.len() - at {
-            return at + bytes;
-        }
-    }
-    text.len()
-}
-
-// The bytes from a start to an end, none where the end comes first.
-pub fn part(text: &[u8], start: usize, end: usize) -> &[u8] {
-    if text.len() < end {
-        return &text[0..0];
-    }
-    if end < start {
-        return &text[0..0];
-    }
-    &text[start..end]
-}
-
-// The next bar after a position, or the line's end.
-fn bar_after(text: &[u8], at: usize, end: usize) -> usize {
-    let bar = find(text, after(text, at, 1), b'|');
-    if end < bar {
-        return end;
-    }
-    bar
-}
-
-// The field between two bars, without the spaces beside them.
-fn field(text: &[u8], bar: usize, next: usize) -> &[u8] {
-    if next == 0 {
-        return &text[0..0];
-    }
-    part(text, after(text, bar, 2), next - 1)
 }
 
 // The calls on one case.

@@ -1,16 +1,17 @@
 // The call menu held against what is due, and the first difference in full.
-use crate::lister::Listing;
-use crate::reading::get;
-use crate::reading::plus;
-use crate::reading::wide;
-use crate::tally::Tally;
-use crate::tally::add;
-use crate::tally::differ;
-use conformance_report::build::front;
+use conformance_plain::build::front;
+use conformance_plain::lister::Listing;
+use conformance_plain::reading::plus;
+use conformance_plain::reading::wide;
 use conformance_report::report::fill;
-use conformance_report::report::first_changed;
 use conformance_report::report::refused;
+use conformance_report::report::same_words;
 use conformance_report::report::say_words;
+use conformance_report::report::stay;
+use conformance_report::report::zeros;
+use conformance_report::tally::Tally;
+use conformance_report::tally::add;
+use conformance_report::tally::differ;
 use search::menu::menu;
 use semantics::Listed;
 
@@ -75,34 +76,6 @@ fn fill_front(buffer: &mut [u32], n: usize) {
         return;
     }
     fill(&mut buffer[0..n]);
-}
-
-fn same_words(a: &[u32], b: &[u32], n: usize) -> bool {
-    let mut i = 0;
-    while i < n {
-        if get(a, i) != get(b, i) {
-            return false;
-        }
-        i += 1;
-    }
-    true
-}
-
-fn zeros(a: &[u32], n: usize) -> bool {
-    let mut i = 0;
-    while i < n {
-        if get(a, i) != 0 {
-            return false;
-        }
-        i += 1;
-    }
-    true
-}
-
-// Whether the words from a start to an end are as before the call.
-fn stay(buffer: &[u32], start: usize, end: usize) -> bool {
-    let part = front(buffer, end);
-    first_changed(part, start) == part.len()
 }
 
 // How far a buffer is looked at: some words beyond the room.

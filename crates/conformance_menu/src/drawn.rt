@@ -2,58 +2,56 @@
 use crate::compare::compare;
 use crate::compare::compare_all;
 use crate::compare::due_refused;
-use crate::counting::count_tries;
-use crate::draw::Draft;
-use crate::draw::next;
-use crate::draw::pick;
+use crate::kinds::AGAIN;
+use crate::kinds::BESIDE;
+use crate::kinds::CASES;
+use crate::kinds::CONSTANT;
+use crate::kinds::EMPTY;
+use crate::kinds::LISTED;
+use crate::kinds::MATCH_FIRST;
+use crate::kinds::MATCH_LOST;
+use crate::kinds::NEGATIVE;
+use crate::kinds::NO_VARIABLES;
+use crate::kinds::OPERATOR;
+use crate::kinds::OVER;
+use crate::kinds::RANGE_FIRST;
+use crate::kinds::RANGE_ONLY;
+use crate::kinds::REPEATED;
+use crate::kinds::SOLVE_FIRST;
+use crate::kinds::SOLVE_LOST;
+use crate::kinds::SOME;
+use crate::kinds::TRIES;
+use crate::kinds::TWO_PLANS;
+use crate::kinds::UNORDERED;
+use crate::kinds::VARYING;
+use crate::kinds::ZERO;
 use crate::kinds::count_kinds;
-use crate::lister::Listing;
-use crate::lister::list_all;
-use crate::nets::beside;
-use crate::nets::draw_head;
-use crate::nets::marking;
-use crate::plans::draw_plan;
-use crate::reading::get;
-use crate::reading::shape_of;
-use crate::tally::AGAIN;
-use crate::tally::BESIDE;
-use crate::tally::CASES;
-use crate::tally::CONSTANT;
-use crate::tally::EMPTY;
-use crate::tally::LISTED;
-use crate::tally::MATCH_FIRST;
-use crate::tally::MATCH_LOST;
-use crate::tally::NEGATIVE;
-use crate::tally::NO_VARIABLES;
-use crate::tally::OPERATOR;
-use crate::tally::OVER;
-use crate::tally::RANGE_FIRST;
-use crate::tally::RANGE_ONLY;
-use crate::tally::REPEATED;
-use crate::tally::SOLVE_FIRST;
-use crate::tally::SOLVE_LOST;
-use crate::tally::SOME;
-use crate::tally::TRIES;
-use crate::tally::TWO_PLANS;
-use crate::tally::Tally;
-use crate::tally::UNORDERED;
-use crate::tally::VARYING;
-use crate::tally::ZERO;
-use crate::tally::add;
-use crate::tally::answers;
-use crate::tally::end;
-use crate::tally::line;
-use crate::tally::none;
-use conformance_report::build::front;
-use conformance_report::build::put;
+use conformance_plain::build::copy;
+use conformance_plain::build::front;
+use conformance_plain::build::put;
+use conformance_plain::counting::count_tries;
+use conformance_plain::counts::counts_of;
+use conformance_plain::draw::Draft;
+use conformance_plain::draw::jump;
+use conformance_plain::draw::next;
+use conformance_plain::draw::pick;
+use conformance_plain::lister::Listing;
+use conformance_plain::lister::list_all;
+use conformance_plain::nets::beside;
+use conformance_plain::nets::draw_head;
+use conformance_plain::nets::marking;
+use conformance_plain::plans::draw_plan;
+use conformance_plain::reading::get;
+use conformance_plain::reading::less;
+use conformance_plain::reading::shape_of;
 use conformance_report::report::heading;
-
-fn less(n: usize) -> usize {
-    if n == 0 {
-        return 0;
-    }
-    n - 1
-}
+use conformance_report::report::same_words;
+use conformance_report::tally::Tally;
+use conformance_report::tally::add;
+use conformance_report::tally::answers;
+use conformance_report::tally::end;
+use conformance_report::tally::line;
+use conformance_report::tally::none;
 
 // A call with an input that is refused: the net a word short, no such transition, or a TOKEN with nothing after it.
 fn compare_refused(
@@ -113,15 +111,6 @@ fn compare_refused(
     }
 }
 
-// The first words of a net copied.
-fn copy(from: &[u32], to: &mut [u32], n: usize) {
-    let mut i = 0;
-    while i < n {
-        put(to, i, get(from, i));
-        i += 1;
-    }
-}
-
 // Two nets that differ only in their plans: their lengths, the number of the drawn transition, and the state of the sequence.
 struct Pair {
     first: usize,
@@ -161,20 +150,6 @@ fn draw_nets(net: &mut [u32], other: &mut [u32], seed: u64) -> Pair {
     }
 }
 
-fn same_words(a: &[u32], b: &[u32]) -> bool {
-    if a.len() != b.len() {
-        return false;
-    }
-    let mut i = 0;
-    while i < a.len() {
-        if get(a, i) != get(b, i) {
-            return false;
-        }
-        i += 1;
-    }
-    true
-}
-
 // The second plan, which has to give the same list.
 fn compare_other(
     t: Tally,
@@ -186,11 +161,12 @@ fn compare_other(
     buffer: &mut [u32],
     queue: &mut [u32],
 ) -> Tally {
-    let w = count_tries(other, transition, marking, queue);
+    let s = shape_of(other, transition);
+    let w = count_tries(other, s, marking, queue);
     if w.over {
         return add(t, OVER, 1);
     }
-    let kinds = count_kinds(t, other, transition, marking, list, l, w);
+    let kinds = count_kinds(t, other, s, marking, list, l, queue, w);
     compare_all(
         add(kinds, TWO_PLANS, 1),
         other,
@@ -214,11 +190,12 @@ pub fn compare_net(
     buffer: &mut [u32],
     queue: &mut [u32],
 ) -> Tally {
-    let w = count_tries(net, transition, marking, queue);
+    let s = shape_of(net, transition);
+    let w = count_tries(net, s, marking, queue);
     if w.over {
         return add(t, OVER, 1);
     }
-    let kinds = count_kinds(t, net, transition, marking, list, l, w);
+    let kinds = count_kinds(t, net, s, marking, list, l, queue, w);
     compare_all(kinds, net, transition, marking, l, w.tries, list, buffer)
 }
 
@@ -232,9 +209,14 @@ fn compare_plans(
     buffer: &mut [u32],
     queue: &mut [u32],
 ) -> Tally {
-    let l = list_all(net, transition, marking, list);
+    let l = list_all(
+        net,
+        shape_of(net, transition),
+        counts_of(net, marking),
+        list,
+    );
     let one = compare_net(t, net, transition, marking, list, l, buffer, queue);
-    if same_words(net, other) {
+    if net.len() == other.len() && same_words(net, other, net.len()) {
         return one;
     }
     compare_other(one, other, transition, marking, list, l, buffer, queue)
@@ -334,11 +316,6 @@ fn sample(t: Tally, seed: u64, list: &mut [u32], buffer: &mut [u32], queue: &mut
     )
 }
 
-// The state that a next case starts from.
-fn jump(seed: u64) -> u64 {
-    (seed % 0x8000_0000 * 69_069 + 1) % 0x8000_0000
-}
-
 fn samples(count: u32, list: &mut [u32], buffer: &mut [u32], queue: &mut [u32]) -> Tally {
     let mut t = none();
     let mut seed: u64 = 2026;
@@ -387,6 +364,6 @@ pub fn all(list: &mut [u32], buffer: &mut [u32], queue: &mut [u32]) {
     say_plans(t);
     say_kinds(t);
     io::write_all(1, b"\ncalls by answer\n");
-    answers(t);
+    answers(t, b"found");
     end(t);
 }

@@ -1,46 +1,78 @@
 // What a case has in it, counted by kind.
-use crate::counting::Work;
-use crate::lister::Listing;
-use crate::plans::after_element;
-use crate::reading::Shape;
-use crate::reading::components;
-use crate::reading::get;
-use crate::reading::kind;
-use crate::reading::next_entry;
-use crate::reading::place_of;
-use crate::reading::plus;
-use crate::reading::shape_of;
-use crate::reading::skip;
-use crate::reading::skip_arcs;
-use crate::reading::wide;
-use crate::slots::Slots;
-use crate::slots::slot;
-use crate::slots::unbound;
-use crate::slots::with;
-use crate::tally::AGAIN;
-use crate::tally::BESIDE;
-use crate::tally::CASES;
-use crate::tally::CONSTANT;
-use crate::tally::EMPTY;
-use crate::tally::LISTED;
-use crate::tally::MATCH_FIRST;
-use crate::tally::MATCH_LOST;
-use crate::tally::NEGATIVE;
-use crate::tally::NO_VARIABLES;
-use crate::tally::OPERATOR;
-use crate::tally::RANGE_FIRST;
-use crate::tally::RANGE_ONLY;
-use crate::tally::REPEATED;
-use crate::tally::SOLVE_FIRST;
-use crate::tally::SOLVE_LOST;
-use crate::tally::SOME;
-use crate::tally::TRIES;
-use crate::tally::Tally;
-use crate::tally::UNORDERED;
-use crate::tally::VARYING;
-use crate::tally::ZERO;
-use crate::tally::add;
-use crate::tally::add_if;
+use conformance_plain::counting::Arrival;
+use conformance_plain::counting::Work;
+use conformance_plain::counting::arrival_at;
+use conformance_plain::counts::Counts;
+use conformance_plain::counts::counts_of;
+use conformance_plain::flow::is_enabled;
+use conformance_plain::lister::Listing;
+use conformance_plain::plans::after_element;
+use conformance_plain::reading::Shape;
+use conformance_plain::reading::components;
+use conformance_plain::reading::get;
+use conformance_plain::reading::kind;
+use conformance_plain::reading::next_entry;
+use conformance_plain::reading::place_of;
+use conformance_plain::reading::plus;
+use conformance_plain::reading::raised;
+use conformance_plain::reading::skip;
+use conformance_plain::reading::skip_arcs;
+use conformance_plain::reading::wide;
+use conformance_plain::slots::Slots;
+use conformance_plain::slots::slot;
+use conformance_plain::slots::unbound;
+use conformance_plain::slots::with;
+use conformance_report::tally::Tally;
+use conformance_report::tally::add;
+use conformance_report::tally::add_if;
+use std::num::wrapping_add_u32;
+
+// Transitions with their markings.
+pub const CASES: usize = 17;
+
+pub const OVER: usize = 18;
+
+pub const TWO_PLANS: usize = 19;
+
+pub const LISTED: usize = 20;
+
+pub const TRIES: usize = 21;
+
+pub const SOME: usize = 22;
+
+pub const NO_VARIABLES: usize = 23;
+
+pub const MATCH_FIRST: usize = 24;
+
+pub const SOLVE_FIRST: usize = 25;
+
+pub const RANGE_FIRST: usize = 26;
+
+pub const RANGE_ONLY: usize = 27;
+
+pub const REPEATED: usize = 28;
+
+pub const CONSTANT: usize = 29;
+
+pub const OPERATOR: usize = 30;
+
+pub const EMPTY: usize = 31;
+
+pub const NEGATIVE: usize = 32;
+
+pub const ZERO: usize = 33;
+
+pub const VARYING: usize = 34;
+
+pub const MATCH_LOST: usize = 35;
+
+pub const SOLVE_LOST: usize = 36;
+
+pub const AGAIN: usize = 37;
+
+pub const UNORDERED: usize = 38;
+
+pub const BESIDE: usize = 39;
 
 // What stands in the arcs of a transition, and in its plan.
 struct Found {
@@ -196,11 +228,64 @@ fn count_arcs(t: Tally, f: Found) -> Tally {
     add_if(e, VARYING, f.varying)
 }
 
-fn count_work(t: Tally, w: Work, l: Listing) -> Tally {
+// The enabled bindings that the tries met so far: how many, whether they rose, and the last one.
+struct Met {
+    count: u32,
+    rising: bool,
+    last: Slots,
+}
+
+// Whether a first row is before a second.
+fn before(a: Slots, b: Slots) -> bool {
+    let mut v = 0;
+    while v < 8 {
+        if raised(slot(a, v)) != raised(slot(b, v)) {
+            return raised(slot(a, v)) < raised(slot(b, v));
+        }
+        v += 1;
+    }
+    false
+}
+
+// An arrival in the queue of the tries.
+fn meet(net: &[u32], s: Shape, c: Counts, m: Met, a: Arrival) -> Met {
+    let b = a.binding;
+    if a.element < s.elements || !is_enabled(net, s, c, b) {
+        return m;
+    }
+    let last = m.last;
+    Met {
+        count: wrapping_add_u32(m.count, 1),
+        rising: m.rising && (m.count == 0 || before(last, b)),
+        last: b,
+    }
+}
+
+// The enabled bindings among all arrivals.
+fn meet_all(net: &[u32], s: Shape, c: Counts, queue: &[u32], w: Work) -> Met {
+    let mut m = Met {
+        count: 0,
+        rising: true,
+        last: unbound(),
+    };
+    let mut at = 0;
+    let mut left = w.tail;
+    while 0 < left {
+        if w.tail <= at {
+            return m;
+        }
+        m = meet(net, s, c, m, arrival_at(queue, at));
+        at = plus(at, 9);
+        left -= 1;
+    }
+    m
+}
+
+fn count_work(t: Tally, w: Work, m: Met, l: Listing) -> Tally {
     let a = add_if(t, MATCH_LOST, w.match_lost);
     let b = add_if(a, SOLVE_LOST, w.solve_lost);
-    let c = add_if(b, AGAIN, l.count < w.met);
-    let d = add_if(c, UNORDERED, !w.rising);
+    let c = add_if(b, AGAIN, l.count < m.count);
+    let d = add_if(c, UNORDERED, !m.rising);
     add(d, TRIES, w.tries)
 }
 
@@ -208,16 +293,17 @@ fn count_work(t: Tally, w: Work, l: Listing) -> Tally {
 pub fn count_kinds(
     t: Tally,
     net: &[u32],
-    transition: u32,
+    s: Shape,
     marking: &[u32],
     list: &[u32],
     l: Listing,
+    queue: &[u32],
     w: Work,
 ) -> Tally {
-    let s = shape_of(net, transition);
+    let met = meet_all(net, s, counts_of(net, marking), queue, w);
     let f = coefficients(plan(nothing(), net, s, marking), net, s);
     let a = count_plan(add(t, CASES, 1), s, get(net, s.elements_at), f.only);
-    let b = count_work(count_arcs(a, f), w, l);
+    let b = count_work(count_arcs(a, f), w, met, l);
     let c = add_if(b, NEGATIVE, has_negative(list, l.words));
     let d = add_if(c, SOME, l.count != 0);
     let e = add_if(d, BESIDE, 1 < get(net, 0) % 256);

@@ -1,38 +1,20 @@
-// Holds the call menu against a lister that goes through all bindings of a transition in order and asks the enabling test, and W against a separate count
-// of the tries: on the cases of the file stdin beside this folder and on nets, markings and plans drawn from a fixed sequence of numbers. It prints how many
+// Holds the call menu against a lister that goes through all bindings of a transition in order and keeps those enabled under an array of counts, and W against
+// a separate count of the tries: on the cases of the file stdin beside this folder and on nets, markings and plans drawn from a fixed sequence of numbers. It prints how many
 // it compared by kind, and the first difference in full.
 
 // The call menu held against what is due.
 mod compare;
-// A sequence of numbers, and expressions drawn from it.
-mod draw;
 // Drawn cases.
 mod drawn;
 // What a case has in it.
 mod kinds;
-// The lister.
-mod lister;
-// Drawn nets and markings.
-mod nets;
 // Examples of document 01 and outside cases.
 mod outside;
-// Drawn plans.
-mod plans;
-// Where the parts of a net and of a marking stand.
-mod reading;
-// Numbers compared so far.
-mod tally;
-// The count of tries.
-mod counting;
-// What an expression is worth.
-mod value;
-// A binding's slots.
-mod slots;
 
 fn main() {
     let mut list = [0u32; 16400];
     let mut buffer = [0u32; 16400];
-    let mut queue = [0u32; 73728];
+    let mut queue = [0u32; 147465];
     io::write_all(
         1,
         b"menu against a lister over all bindings and a count of tries, document 01\n",

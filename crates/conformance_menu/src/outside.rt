@@ -4,73 +4,32 @@
 use crate::compare::Due;
 use crate::compare::compare;
 use crate::drawn::compare_net;
-use crate::lister::MOST;
-use crate::lister::list_all;
-use crate::lister::tuples;
-use crate::reading::get;
-use crate::reading::shape_of;
-use crate::reading::wide;
-use crate::tally::CASES;
-use crate::tally::OVER;
-use crate::tally::Tally;
-use crate::tally::add;
-use crate::tally::answers;
-use crate::tally::end;
-use crate::tally::line;
-use crate::tally::none;
-use conformance_report::build::front;
-use conformance_report::build::write;
+use crate::kinds::CASES;
+use crate::kinds::OVER;
+use conformance_plain::build::front;
+use conformance_plain::build::write;
+use conformance_plain::counts::MOST_CELLS;
+use conformance_plain::counts::counts_of;
+use conformance_plain::counts::first_cell;
+use conformance_plain::lister::list_all;
+use conformance_plain::reading::get;
+use conformance_plain::reading::place_count;
+use conformance_plain::reading::shape_of;
+use conformance_plain::reading::wide;
+use conformance_plain::text::after;
+use conformance_plain::text::bar_after;
+use conformance_plain::text::field;
+use conformance_plain::text::find;
+use conformance_plain::text::part;
+use conformance_plain::tuples::MOST;
+use conformance_plain::tuples::tuples;
 use conformance_report::report::heading;
-
-// The position of a byte from a start on, or the length where there is none.
-fn find(text: &[u8], start: usize, b: u8) -> usize {
-    let mut at = start;
-    while at < text.len() {
-        if text[at] == b {
-            return at;
-        }
-        at += 1;
-    }
-    text.len()
-}
-
-// A position moved on, as far as the text goes.
-fn after(text: &[u8], at: usize, bytes: usize) -> usize {
-    if at < text.len() {
-        if bytes < text.len() - at {
-            return at + bytes;
-        }
-    }
-    text.len()
-}
-
-// The bytes from a start to an end, none where the end comes first.
-fn part(text: &[u8], start: usize, end: usize) -> &[u8] {
-    if text.len() < end {
-        return &text[0..0];
-    }
-    if end < start {
-        return &text[0..0];
-    }
-    &text[start..end]
-}
-
-// The next bar after a position, or the line's end.
-fn bar_after(text: &[u8], at: usize, end: usize) -> usize {
-    let bar = find(text, after(text, at, 1), b'|');
-    if end < bar {
-        return end;
-    }
-    bar
-}
-
-// The field between two bars, without the spaces beside them.
-fn field(text: &[u8], bar: usize, next: usize) -> &[u8] {
-    if next == 0 {
-        return &text[0..0];
-    }
-    part(text, after(text, bar, 2), next - 1)
-}
+use conformance_report::tally::Tally;
+use conformance_report::tally::add;
+use conformance_report::tally::answers;
+use conformance_report::tally::end;
+use conformance_report::tally::line;
+use conformance_report::tally::none;
 
 // The lister and the count of tries on an accepted input.
 fn hold(
@@ -83,10 +42,10 @@ fn hold(
     queue: &mut [u32],
 ) -> Tally {
     let s = shape_of(net, transition);
-    if MOST < tuples(net, s.ranges, s.variables) {
+    if MOST < tuples(net, s.ranges, s.variables) || MOST_CELLS < first_cell(net, place_count(net)) {
         return add(t, OVER, 1);
     }
-    let l = list_all(net, transition, marking, list);
+    let l = list_all(net, s, counts_of(net, marking), list);
     compare_net(t, net, transition, marking, list, l, buffer, queue)
 }
 
@@ -216,6 +175,6 @@ pub fn all(list: &mut [u32], buffer: &mut [u32], queue: &mut [u32]) {
     let t = run_lines(part(&text, 0, n), list, buffer, queue);
     line(t, b"accepted", CASES);
     line(t, b"too large to list", OVER);
-    answers(t);
+    answers(t, b"found");
     end(t);
 }

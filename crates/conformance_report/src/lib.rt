@@ -1,6 +1,6 @@
-// For the conformance programs of test and fire: words written as text, and lines of output that say what the calls answer and leave in the buffer.
+// For the conformance programs: lines of output that say what the calls answer and leave in the buffer, and numbers of cases by kind.
 
-// Words put into a buffer.
-pub mod build;
 // Lines of the output.
 pub mod report;
+// Numbers of cases by kind.
+pub mod tally;

@@ -1,6 +1,7 @@
 // Lines of the output: the case, what test answers, what fire answers and what it leaves in the buffer.
-use crate::build::front;
-use crate::build::put;
+use conformance_plain::build::front;
+use conformance_plain::build::put;
+use conformance_plain::reading::get;
 use firing::fire::fire;
 use occurrence::test::test;
 use semantics::Fired;
@@ -66,6 +67,36 @@ pub fn first_changed(buffer: &[u32], start: usize) -> usize {
         i += 1;
     }
     buffer.len()
+}
+
+// Whether the first n words are equal.
+pub fn same_words(a: &[u32], b: &[u32], n: usize) -> bool {
+    let mut i = 0;
+    while i < n {
+        if get(a, i) != get(b, i) {
+            return false;
+        }
+        i += 1;
+    }
+    true
+}
+
+// Whether the first n words are zeros.
+pub fn zeros(a: &[u32], n: usize) -> bool {
+    let mut i = 0;
+    while i < n {
+        if get(a, i) != 0 {
+            return false;
+        }
+        i += 1;
+    }
+    true
+}
+
+// Whether the words from a start to an end are as before the call.
+pub fn stay(buffer: &[u32], start: usize, end: usize) -> bool {
+    let part = front(buffer, end);
+    first_changed(part, start) == part.len()
 }
 
 // Whether the words from a start on stay.
