@@ -5,13 +5,10 @@ use Rattle.conformance_report.proofs.tally.answers.Statement.{statement
 use Rattle.conformance_report.proofs.tally.answers.Tie as tie
 
 abbrev Inv-loop : tie.InvT-loop
-Inv-loop t k₀ k = Unit {0}
+Inv-loop t name k₀ k = Unit {0}
 
 abbrev μ-loop : tie.MeasureT-loop
-μ-loop t k₀ k = 17 - k
-
-slice-aggregate-line : tie.Need-slice-aggregate-line Inv-loop μ-loop
-slice-aggregate-line c = search needs
+μ-loop t name k₀ k = 17 - k
 
 line-requires : tie.Need-line-requires Inv-loop μ-loop
 line-requires c κs = search needs
@@ -40,7 +37,6 @@ answers-spec =
     (tie.spec
     Inv-loop
     μ-loop
-    slice-aggregate-line
     line-requires
     loop-holds
     refused-requires

@@ -1,0 +1,57 @@
+-- `conformance_run::outside::hold_lines` is safe and ends. The measure is the number of turns that are left.
+use borrow.Author.Needs.{needs}
+use Rattle.conformance_run.proofs.outside.hold_lines.Statement.{statement}
+use Rattle.conformance_run.proofs.outside.hold_lines.Tie as tie
+
+abbrev Inv-loop : tie.InvT-loop
+Inv-loop text t₀ left₀ at₀ t left at = Unit {0}
+
+abbrev μ-loop : tie.MeasureT-loop
+μ-loop text t₀ left₀ at₀ t left at = left
+
+none-requires : tie.Need-none-requires Inv-loop μ-loop
+none-requires c κs = search needs
+
+loop-holds : tie.Need-loop-holds Inv-loop μ-loop
+loop-holds c = tt
+
+returns : tie.Need-returns Inv-loop μ-loop
+returns c = search needs
+
+find-requires : tie.Need-find-requires Inv-loop μ-loop
+find-requires c κs = search needs
+
+hold-line-requires : tie.Need-hold-line-requires Inv-loop μ-loop
+hold-line-requires c κs = search needs
+
+after-requires : tie.Need-after-requires Inv-loop μ-loop
+after-requires c κs = search needs
+
+sub-left : tie.Need-sub-left Inv-loop μ-loop
+sub-left c = search needs
+
+loop-less : tie.Need-loop-less Inv-loop μ-loop
+loop-less c = search needs
+
+loop-again : tie.Need-loop-again Inv-loop μ-loop
+loop-again c = search needs
+
+returns-2 : tie.Need-returns-2 Inv-loop μ-loop
+returns-2 c = search needs
+
+pub hold-lines-spec : {M : Type 1} → statement M
+hold-lines-spec =
+    tie.close
+    (tie.spec
+    Inv-loop
+    μ-loop
+    none-requires
+    loop-holds
+    returns
+    find-requires
+    hold-line-requires
+    after-requires
+    sub-left
+    loop-less
+    loop-again
+    returns-2)

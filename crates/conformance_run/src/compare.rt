@@ -1,0 +1,142 @@
+// The call run held against what is due, and the first difference in full.
+use crate::plain::Given;
+use conformance_plain::build::copy;
+use conformance_plain::build::front;
+use conformance_plain::reading::plus;
+use conformance_plain::reading::wide;
+use conformance_report::report::fill;
+use conformance_report::report::same_words;
+use conformance_report::report::say_words;
+use conformance_report::report::stay;
+use conformance_report::report::zeros;
+use conformance_report::tally::Tally;
+use conformance_report::tally::add;
+use conformance_report::tally::add_if;
+use conformance_report::tally::differ;
+use run::run::run;
+use semantics::Outcome;
+
+// Picks that were done.
+pub const DONE: usize = 18;
+
+// Runs in which two picks and more were done.
+pub const SEVERAL: usize = 19;
+
+// Runs that were refused for the state after a pick was done.
+pub const LATER: usize = 20;
+
+// The first words of a buffer.
+fn first(buffer: &mut [u32], n: usize) -> &mut [u32] {
+    if buffer.len() < n {
+        return buffer;
+    }
+    &mut buffer[0..n]
+}
+
+// The call.
+fn call(
+    net: &[u32],
+    g: Given,
+    buffer: &mut [u32],
+    spare: &mut [u32],
+    menu: &mut [u32],
+    picks: &[u32],
+) -> Outcome {
+    run(
+        net,
+        g.budget,
+        first(buffer, g.buffer),
+        g.m,
+        first(spare, g.spare),
+        first(menu, g.menu),
+        picks,
+    )
+}
+
+pub fn same_answer(a: Outcome, b: Outcome) -> bool {
+    a.done == b.done && a.refusal == b.refusal && a.position == b.position && a.length == b.length
+}
+
+// Whether the first n words of spare or menu are cleared, or as before, and those after them as before.
+fn is_left(words: &[u32], n: usize, cleared: bool) -> bool {
+    if cleared {
+        return zeros(words, n) && stay(words, n, words.len());
+    }
+    stay(words, 0, words.len())
+}
+
+fn say_number(name: &[u8], n: usize) {
+    io::write_all(1, name);
+    io::print_decimal(1, n as u64);
+}
+
+fn say_input(net: &[u32], g: Given, before: &[u32], picks: &[u32]) {
+    io::write_all(1, b"DIFFERENCE\nnet");
+    say_words(net);
+    say_number(b"\nbudget ", wide(g.budget));
+    say_number(b" m ", g.m);
+    say_number(b" spare ", g.spare);
+    say_number(b" menu ", g.menu);
+    io::write_all(1, b"\nbuffer");
+    say_words(front(before, g.buffer));
+    io::write_all(1, b"\npicks");
+    say_words(picks);
+}
+
+// An answer with what the buffer holds, and some words beyond.
+fn say_answer(name: &[u8], o: Outcome, g: Given, buffer: &[u32]) {
+    io::write_all(1, name);
+    say_number(b"done ", o.done);
+    say_number(b" refusal ", wide(o.refusal));
+    say_number(b" position ", o.position);
+    say_number(b" length ", o.length);
+    io::write_all(1, b", buffer");
+    say_words(front(buffer, plus(g.buffer, 4)));
+}
+
+fn say_rest(spare: &[u32], menu: &[u32], g: Given) {
+    io::write_all(1, b"\nspare");
+    say_words(front(spare, plus(g.spare, 4)));
+    io::write_all(1, b"\nmenu");
+    say_words(front(menu, plus(g.menu, 4)));
+    io::write_all(1, b"\n");
+}
+
+// One more run that has to end so.
+fn counted(t: Tally, d: Outcome) -> Tally {
+    let a = add(t, wide(d.refusal), 1);
+    let b = add(a, DONE, (d.done % 0x1_0000) as u32);
+    let c = add_if(b, SEVERAL, 1 < d.done);
+    add_if(c, LATER, 0 < d.done && d.refusal != 0)
+}
+
+// One call of run against the answer that is due, the buffer as it has to be left, and whether spare and menu have to be cleared.
+pub fn compare(
+    t: Tally,
+    net: &[u32],
+    g: Given,
+    before: &[u32],
+    picks: &[u32],
+    d: Outcome,
+    after: &[u32],
+    cleared: bool,
+) -> Tally {
+    let mut buffer = [0u32; 1600];
+    let mut spare = [0u32; 1600];
+    let mut menu = [0u32; 2400];
+    copy(before, &mut buffer, 1600);
+    fill(&mut spare);
+    fill(&mut menu);
+    let o = call(net, g, &mut buffer, &mut spare, &mut menu, picks);
+    let left = is_left(&spare, g.spare, cleared) && is_left(&menu, g.menu, cleared);
+    if same_answer(o, d) && same_words(&buffer, after, 1600) && left {
+        return counted(t, d);
+    }
+    if t.different == 0 {
+        say_input(net, g, before, picks);
+        say_answer(b"\ndue: ", d, g, after);
+        say_answer(b"\nrun: ", o, g, &buffer);
+        say_rest(&spare, &menu, g);
+    }
+    differ(counted(t, d))
+}

@@ -1,0 +1,321 @@
+// Drawn runs: a net of one to three transitions with their plans, a marking, picks, a budget and buffers, some of them damaged or short.
+use crate::compare::DONE;
+use crate::compare::LATER;
+use crate::compare::SEVERAL;
+use crate::compare::compare;
+use crate::plain::Given;
+use crate::plain::TOO_LARGE;
+use crate::plain::clears;
+use crate::plain::refused_input;
+use crate::plain::run_plainly;
+use crate::plain::transition_of;
+use crate::plain::tries_of;
+use conformance_plain::build::copy;
+use conformance_plain::build::front;
+use conformance_plain::build::put;
+use conformance_plain::counts::Counts;
+use conformance_plain::counts::counts_of;
+use conformance_plain::draw::Draft;
+use conformance_plain::draw::jump;
+use conformance_plain::draw::next;
+use conformance_plain::draw::pick;
+use conformance_plain::draw::step;
+use conformance_plain::draw::word;
+use conformance_plain::lister::list_all;
+use conformance_plain::nets::marking;
+use conformance_plain::nets::places;
+use conformance_plain::nets::transition;
+use conformance_plain::plans::draw_plan;
+use conformance_plain::reading::get;
+use conformance_plain::reading::less;
+use conformance_plain::reading::plus;
+use conformance_plain::reading::shape_of;
+use conformance_plain::reading::wide;
+use conformance_plain::value::times;
+use conformance_report::report::fill;
+use conformance_report::report::heading;
+use conformance_report::tally::Tally;
+use conformance_report::tally::add;
+use conformance_report::tally::add_if;
+use conformance_report::tally::answers;
+use conformance_report::tally::end;
+use conformance_report::tally::line;
+use conformance_report::tally::none;
+use std::num::wrapping_add_u32;
+use std::num::wrapping_sub_u32;
+
+// All runs.
+const RUNS: usize = 17;
+
+// Runs without picks.
+const NO_PICKS: usize = 22;
+
+// Runs whose spare is shorter than their buffer.
+const SHORT_SPARE: usize = 23;
+
+// Runs whose plans have more tries than are counted; they are left out.
+const LARGE: usize = 24;
+
+// Transitions with their plans.
+fn transitions(net: &mut [u32], d: Draft, places: u32, count: u32) -> Draft {
+    let mut drawn = d;
+    let mut t: u32 = 0;
+    while t < count {
+        let head = transition(net, drawn, places);
+        drawn = draw_plan(net, t, head);
+        t += 1;
+    }
+    drawn
+}
+
+// A net of one to three places and one to three transitions.
+fn draw_net(net: &mut [u32], seed: u64) -> Draft {
+    let p = step(Draft { at: 0, seed: seed });
+    let t = step(p);
+    let place_count = pick(p.seed, 3) % 4 + 1;
+    let transition_count = pick(t.seed, 3) % 4 + 1;
+    let head = word(net, t, 0x1000_0000 + place_count * 256 + transition_count);
+    let placed = places(net, head, place_count);
+    transitions(net, placed, place_count, transition_count)
+}
+
+// How many enabled bindings each transition has.
+fn list_sizes(net: &[u32], c: Counts, sizes: &mut [u32]) {
+    let mut list = [0u32; 2400];
+    let count = get(net, 0) % 256;
+    let mut t: u32 = 0;
+    while t < count {
+        let l = list_all(net, shape_of(net, t), c, &mut list);
+        put(sizes, wide(t), l.count);
+        t += 1;
+    }
+}
+
+// No transition has an enabled binding. Most of these nets are left out, since a run ends there at its first pick.
+fn is_dead(sizes: &[u32]) -> bool {
+    get(sizes, 0) == 0 && get(sizes, 1) == 0 && get(sizes, 2) == 0
+}
+
+// A PICK word.
+fn pick_word(transition: u32, index: u32) -> u32 {
+    0xD000_0000 + transition % 256 * 0x4000 + index % 0x4000
+}
+
+// The second of two transitions where the first has no enabled binding.
+fn livelier(sizes: &[u32], a: u32, b: u32) -> u32 {
+    if get(sizes, wide(a)) == 0 {
+        return b;
+    }
+    a
+}
+
+// A pick of a transition that the net has: of its first binding, of any or of one too many, as the marking is before the run.
+fn fit_pick(sizes: &[u32], seed: u64) -> u32 {
+    let b = next(seed);
+    let c = next(b);
+    let count = (sizes.len() % 0x100) as u32;
+    let t = livelier(sizes, pick(seed, count), pick(b, count));
+    match pick(c, 16) {
+        0..=7 => pick_word(t, 0),
+        8..=14 => pick_word(t, pick(next(c), get(sizes, wide(t)))),
+        _ => pick_word(t, get(sizes, wide(t))),
+    }
+}
+
+// A pick: mostly one that is well formed and whose transition the net has.
+fn draw_pick(sizes: &[u32], seed: u64) -> u32 {
+    let w = fit_pick(sizes, next(seed));
+    match pick(seed, 150) {
+        0 => wrapping_sub_u32(w, 0x1000_0000),
+        1 => wrapping_add_u32(w, 0x40_0000),
+        2 => pick_word((sizes.len() % 0x100) as u32, 0),
+        3 => pick_word(255, 0),
+        _ => w,
+    }
+}
+
+// A list of picks; answers the state of the sequence.
+fn draw_picks(picks: &mut [u32], sizes: &[u32], seed: u64, count: usize) -> u64 {
+    let mut s = seed;
+    let mut i = 0;
+    while i < count {
+        s = jump(s);
+        put(picks, i, draw_pick(sizes, s));
+        i += 1;
+    }
+    s
+}
+
+// A budget: plenty, or about what is asked for.
+fn budget_of(k: u32, tries: u64) -> u32 {
+    let w = (tries % 0x1_0000_0000) as u32;
+    match k {
+        0 => wrapping_sub_u32(w, 1) % 0x1000,
+        1 => w,
+        2 => wrapping_add_u32(w, 3),
+        _ => 1_000_000,
+    }
+}
+
+// A length: plenty, or about what is asked for.
+fn length_of(k: u32, n: usize) -> usize {
+    match k {
+        0 => less(n),
+        1..=2 => n,
+        3..=4 => plus(n, 1),
+        5..=6 => plus(n, 2),
+        7 => plus(n, 4),
+        _ => plus(n, 60),
+    }
+}
+
+// What a run is handed: budget and menu by what the first pick asks for.
+fn draw_given(net: &[u32], c: Counts, m: usize, sizes: &[u32], first: u32, seed: u64) -> Given {
+    let a = next(seed);
+    let b = next(a);
+    let d = next(b);
+    let s = shape_of(net, transition_of(first));
+    let size = get(sizes, wide(transition_of(first)));
+    let words = times(s.variables as u64, size as u64) % 0x1_0000;
+    Given {
+        budget: budget_of(pick(seed, 16), tries_of(net, s, c)),
+        m: m,
+        buffer: length_of(pick(a, 20), m),
+        spare: length_of(pick(b, 20), m),
+        menu: length_of(pick(d, 20), words as usize),
+    }
+}
+
+// One word of a marking changed: a count or a value by one, a stray bit, another kind.
+fn damage(words: &mut [u32], m: usize, seed: u64) {
+    let at = wide(pick(seed, (m % 0x1_0000) as u32));
+    let w = get(words, at);
+    match pick(next(seed), 5) {
+        0 => {
+            put(words, at, wrapping_add_u32(w, 1));
+        }
+        1 => {
+            put(words, at, wrapping_sub_u32(w, 1));
+        }
+        2 => {
+            put(words, at, wrapping_add_u32(w, 0x40_0000));
+        }
+        3 => {
+            put(words, at, wrapping_add_u32(w, 0x4000));
+        }
+        _ => {
+            put(words, at, wrapping_add_u32(w, 0x1000_0000));
+        }
+    }
+}
+
+// A run of an accepted net against the plain run.
+fn compare_plain(t: Tally, net: &[u32], g: Given, before: &[u32], picks: &[u32]) -> Tally {
+    let mut after = [0u32; 1600];
+    copy(before, &mut after, 1600);
+    let d = run_plainly(net, g, &mut after, picks);
+    if d.refusal == TOO_LARGE {
+        return add(t, LARGE, 1);
+    }
+    let a = add_if(t, NO_PICKS, picks.len() == 0);
+    let b = add_if(a, SHORT_SPARE, g.spare < g.buffer);
+    compare(b, net, g, before, picks, d, &after, clears(d.refusal))
+}
+
+// A run: of the net a word short, with a word too many, or as it is.
+fn compare_run(
+    t: Tally,
+    net: &[u32],
+    length: usize,
+    g: Given,
+    before: &[u32],
+    picks: &[u32],
+    k: u32,
+) -> Tally {
+    match k {
+        0 => {
+            let cut = less(length);
+            let d = refused_input(2, cut);
+            compare(t, front(net, cut), g, before, picks, d, before, false)
+        }
+        1 => {
+            let more = plus(length, 1);
+            let e = refused_input(4, length);
+            compare(t, front(net, more), g, before, picks, e, before, false)
+        }
+        _ => compare_plain(t, front(net, length), g, before, picks),
+    }
+}
+
+// A run of a net with its marking in the first words of a buffer.
+fn sample_of(
+    t: Tally,
+    net: &[u32],
+    length: usize,
+    before: &mut [u32],
+    m: usize,
+    seed: u64,
+) -> Tally {
+    let mut sizes = [0u32; 4];
+    let mut picks = [0u32; 8];
+    let whole = front(net, length);
+    let c = counts_of(whole, front(before, m));
+    list_sizes(whole, c, &mut sizes);
+    if is_dead(&sizes) && pick(jump(seed), 12) != 0 {
+        return t;
+    }
+    let live = front(&sizes, wide(get(net, 0) % 256));
+    let count = wide(pick(seed, 9));
+    let s = jump(draw_picks(&mut picks, live, next(seed), count));
+    let g = draw_given(whole, c, m, live, get(&picks, 0), s);
+    let k = jump(s);
+    if pick(k, 25) == 0 {
+        damage(before, m, next(k));
+    }
+    compare_run(
+        add(t, RUNS, 1),
+        net,
+        length,
+        g,
+        before,
+        front(&picks, count),
+        pick(jump(k), 60),
+    )
+}
+
+// One run.
+fn sample(t: Tally, seed: u64) -> Tally {
+    let mut net = [0u32; 1024];
+    let mut before = [0u32; 1600];
+    fill(&mut before);
+    let n = draw_net(&mut net, seed);
+    let m = marking(&mut before, n.seed, front(&net, n.at));
+    sample_of(t, &net, n.at, &mut before, m.at, next(m.seed))
+}
+
+fn samples(count: u32) -> Tally {
+    let mut t = none();
+    let mut seed: u64 = 2026;
+    let mut left = count;
+    while 0 < left {
+        t = sample(t, seed);
+        seed = jump(seed);
+        left -= 1;
+    }
+    t
+}
+
+pub fn all() {
+    heading(b"Runs drawn of 6000 nets and markings");
+    let t = samples(6000);
+    line(t, b"runs", RUNS);
+    line(t, b"with too many tries to count, left out", LARGE);
+    line(t, b"picks done", DONE);
+    line(t, b"two picks done and more", SEVERAL);
+    line(t, b"refused after a pick was done", LATER);
+    line(t, b"no picks", NO_PICKS);
+    line(t, b"spare shorter than buffer", SHORT_SPARE);
+    io::write_all(1, b"\nruns by how they end\n");
+    answers(t, b"no refusal");
+    end(t);
+}

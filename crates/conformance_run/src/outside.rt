@@ -1,0 +1,174 @@
+// Outside cases of run, worked out by an independent brute-force implementation of document 01. They stand in the file stdin beside this folder, a line each,
+// with bars between its fields: name; net; buffer; budget, m, and the lengths of spare and menu; picks; done, refusal, position and length; the buffer
+// afterwards; for spare and for menu 1 where it is cleared and 0 where it stays. Each is held against run, and against the plain run where the net is accepted.
+use crate::compare::compare;
+use crate::compare::same_answer;
+use crate::plain::Given;
+use crate::plain::clears;
+use crate::plain::run_plainly;
+use conformance_plain::build::copy;
+use conformance_plain::build::front;
+use conformance_plain::build::write;
+use conformance_plain::reading::get;
+use conformance_plain::reading::wide;
+use conformance_plain::text::after;
+use conformance_plain::text::bar_after;
+use conformance_plain::text::field;
+use conformance_plain::text::find;
+use conformance_plain::text::part;
+use conformance_report::report::fill;
+use conformance_report::report::heading;
+use conformance_report::report::same_words;
+use conformance_report::tally::Tally;
+use conformance_report::tally::add;
+use conformance_report::tally::answers;
+use conformance_report::tally::differ;
+use conformance_report::tally::end;
+use conformance_report::tally::line;
+use conformance_report::tally::none;
+use semantics::Outcome;
+
+// Cases that were held against the plain run.
+const PLAIN: usize = 21;
+
+// The plain run against the answer that is due.
+fn hold_plain(
+    t: Tally,
+    net: &[u32],
+    g: Given,
+    before: &[u32],
+    picks: &[u32],
+    d: Outcome,
+    due: &[u32],
+    cleared: bool,
+) -> Tally {
+    let mut buffer = [0u32; 1600];
+    copy(before, &mut buffer, 1600);
+    let o = run_plainly(net, g, &mut buffer, picks);
+    let counted = add(t, PLAIN, 1);
+    if same_answer(o, d) && same_words(&buffer, due, 1600) && clears(o.refusal) == cleared {
+        return counted;
+    }
+    io::write_all(1, b"DIFFERENCE of the plain run\n");
+    differ(counted)
+}
+
+// One case: the numbers of the call and of the answer.
+fn hold(
+    t: Tally,
+    net: &[u32],
+    length: usize,
+    before: &[u32],
+    call: &[u32],
+    picks: &[u32],
+    answer: &[u32],
+    due: &[u32],
+    cleared: bool,
+) -> Tally {
+    let g = Given {
+        budget: get(call, 0),
+        m: wide(get(call, 1)),
+        buffer: length,
+        spare: wide(get(call, 2)),
+        menu: wide(get(call, 3)),
+    };
+    let d = Outcome {
+        done: wide(get(answer, 0)),
+        refusal: get(answer, 1),
+        position: wide(get(answer, 2)),
+        length: wide(get(answer, 3)),
+    };
+    let told = compare(t, net, g, before, picks, d, due, cleared);
+    if 0 < d.refusal && d.refusal < 6 {
+        return told;
+    }
+    hold_plain(told, net, g, before, picks, d, due, cleared)
+}
+
+// One case from its fields.
+fn hold_fields(
+    t: Tally,
+    net: &[u8],
+    buffer: &[u8],
+    call: &[u8],
+    picks: &[u8],
+    answer: &[u8],
+    due: &[u8],
+    cleared: &[u8],
+) -> Tally {
+    let mut n = [0u32; 128];
+    let mut b = [0u32; 1600];
+    let mut c = [0u32; 4];
+    let mut p = [0u32; 16];
+    let mut a = [0u32; 4];
+    let mut d = [0u32; 1600];
+    let mut z = [0u32; 2];
+    fill(&mut b);
+    fill(&mut d);
+    let n_end = write(&mut n, 0, net);
+    let b_end = write(&mut b, 0, buffer);
+    let p_end = write(&mut p, 0, picks);
+    write(&mut c, 0, call);
+    write(&mut a, 0, answer);
+    write(&mut d, 0, due);
+    write(&mut z, 0, cleared);
+    hold(
+        t,
+        front(&n, n_end),
+        b_end,
+        &b,
+        &c,
+        front(&p, p_end),
+        &a,
+        &d,
+        get(&z, 0) == 1 && get(&z, 1) == 1,
+    )
+}
+
+// The line from a position to its end.
+fn hold_line(t: Tally, text: &[u8], at: usize, end: usize) -> Tally {
+    let net = bar_after(text, at, end);
+    let buffer = bar_after(text, net, end);
+    let call = bar_after(text, buffer, end);
+    let picks = bar_after(text, call, end);
+    let answer = bar_after(text, picks, end);
+    let due = bar_after(text, answer, end);
+    let cleared = bar_after(text, due, end);
+    hold_fields(
+        t,
+        field(text, net, buffer),
+        field(text, buffer, call),
+        field(text, call, picks),
+        field(text, picks, answer),
+        field(text, answer, due),
+        field(text, due, cleared),
+        field(text, cleared, after(text, end, 1)),
+    )
+}
+
+// Each line of a text.
+fn hold_lines(text: &[u8]) -> Tally {
+    let mut t = none();
+    let mut left = text.len();
+    let mut at = 0;
+    while 0 < left {
+        if text.len() <= at {
+            return t;
+        }
+        let end = find(text, at, b'\n');
+        t = hold_line(t, text, at, end);
+        at = after(text, end, 1);
+        left -= 1;
+    }
+    t
+}
+
+pub fn all() {
+    let mut text = [0u8; 65536];
+    let n = io::read_full(0, &mut text);
+    heading(b"Outside cases");
+    let t = hold_lines(part(&text, 0, n));
+    line(t, b"also held against the plain run", PLAIN);
+    answers(t, b"no refusal");
+    end(t);
+}
