@@ -79,14 +79,19 @@ fn draw_net(net: &mut [u32], seed: u64) -> Draft {
     transitions(net, placed, place_count, transition_count)
 }
 
+// How many enabled bindings a transition has.
+fn list_size(net: &[u32], c: Counts, t: u32) -> u32 {
+    let mut list = [0u32; 2400];
+    let l = list_all(net, shape_of(net, t), c, &mut list);
+    l.count
+}
+
 // How many enabled bindings each transition has.
 fn list_sizes(net: &[u32], c: Counts, sizes: &mut [u32]) {
-    let mut list = [0u32; 2400];
     let count = get(net, 0) % 256;
     let mut t: u32 = 0;
     while t < count {
-        let l = list_all(net, shape_of(net, t), c, &mut list);
-        put(sizes, wide(t), l.count);
+        put(sizes, wide(t), list_size(net, c, t));
         t += 1;
     }
 }
@@ -186,27 +191,23 @@ fn draw_given(net: &[u32], c: Counts, m: usize, sizes: &[u32], first: u32, seed:
     }
 }
 
-// One word of a marking changed: a count or a value by one, a stray bit, another kind.
+// A word of a marking, now and then changed: a count or a value by one, a stray bit, another place, another kind.
+fn damaged(w: u32, k: u32) -> u32 {
+    match k {
+        0 => wrapping_add_u32(w, 1),
+        1 => wrapping_sub_u32(w, 1),
+        2 => wrapping_add_u32(w, 0x40_0000),
+        3 => wrapping_add_u32(w, 0x4000),
+        4 => wrapping_add_u32(w, 0x1000_0000),
+        _ => w,
+    }
+}
+
+// The same of one of the first m words.
 fn damage(words: &mut [u32], m: usize, seed: u64) {
     let at = wide(pick(seed, (m % 0x1_0000) as u32));
     let w = get(words, at);
-    match pick(next(seed), 5) {
-        0 => {
-            put(words, at, wrapping_add_u32(w, 1));
-        }
-        1 => {
-            put(words, at, wrapping_sub_u32(w, 1));
-        }
-        2 => {
-            put(words, at, wrapping_add_u32(w, 0x40_0000));
-        }
-        3 => {
-            put(words, at, wrapping_add_u32(w, 0x4000));
-        }
-        _ => {
-            put(words, at, wrapping_add_u32(w, 0x1000_0000));
-        }
-    }
+    put(words, at, damaged(w, pick(next(seed), 100)));
 }
 
 // A run of an accepted net against the plain run.
@@ -247,31 +248,23 @@ fn compare_run(
     }
 }
 
-// A run of a net with its marking in the first words of a buffer.
-fn sample_of(
+// A run of a net with its marking in the first words of a buffer, whose transitions have so many enabled bindings.
+fn draw_run(
     t: Tally,
     net: &[u32],
     length: usize,
     before: &mut [u32],
     m: usize,
+    c: Counts,
+    sizes: &[u32],
     seed: u64,
 ) -> Tally {
-    let mut sizes = [0u32; 4];
     let mut picks = [0u32; 8];
-    let whole = front(net, length);
-    let c = counts_of(whole, front(before, m));
-    list_sizes(whole, c, &mut sizes);
-    if is_dead(&sizes) && pick(jump(seed), 12) != 0 {
-        return t;
-    }
-    let live = front(&sizes, wide(get(net, 0) % 256));
     let count = wide(pick(seed, 9));
-    let s = jump(draw_picks(&mut picks, live, next(seed), count));
-    let g = draw_given(whole, c, m, live, get(&picks, 0), s);
+    let s = jump(draw_picks(&mut picks, sizes, next(seed), count));
+    let g = draw_given(front(net, length), c, m, sizes, get(&picks, 0), s);
     let k = jump(s);
-    if pick(k, 25) == 0 {
-        damage(before, m, next(k));
-    }
+    damage(before, m, k);
     compare_run(
         add(t, RUNS, 1),
         net,
@@ -281,6 +274,26 @@ fn sample_of(
         front(&picks, count),
         pick(jump(k), 60),
     )
+}
+
+// A run, or none where nothing is enabled.
+fn sample_of(
+    t: Tally,
+    net: &[u32],
+    length: usize,
+    before: &mut [u32],
+    m: usize,
+    seed: u64,
+) -> Tally {
+    let mut sizes = [0u32; 4];
+    let whole = front(net, length);
+    let c = counts_of(whole, front(before, m));
+    list_sizes(whole, c, &mut sizes);
+    let live = front(&sizes, wide(get(net, 0) % 256));
+    if is_dead(live) && pick(jump(seed), 12) != 0 {
+        return t;
+    }
+    draw_run(t, net, length, before, m, c, live, seed)
 }
 
 // One run.

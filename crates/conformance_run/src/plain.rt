@@ -229,15 +229,10 @@ pub fn clears(refusal: u32) -> bool {
     refusal == 0 || 10 <= refusal
 }
 
-// The answer to an accepted net; the buffer, as it was before the run, is left as it is after it.
-pub fn run_plainly(net: &[u32], g: Given, buffer: &mut [u32], picks: &[u32]) -> Outcome {
-    let judged = judge_input(net, g, buffer, picks);
-    if judged.refusal != 0 {
-        return judged;
-    }
-    let st = take_picks(net, g, counts_of(net, front(buffer, g.m)), picks);
-    let end = st.counts;
-    let cells = end.cells;
+// The answer of a run that ended so, which leaves its marking in the buffer and zeros after it.
+fn leave(net: &[u32], g: Given, st: State, buffer: &mut [u32]) -> Outcome {
+    let counts = st.counts;
+    let cells = counts.cells;
     clear(buffer, g.buffer);
     let length = put_marking(buffer, net, &cells);
     Outcome {
@@ -246,4 +241,14 @@ pub fn run_plainly(net: &[u32], g: Given, buffer: &mut [u32], picks: &[u32]) -> 
         position: 0,
         length: length,
     }
+}
+
+// The answer to an accepted net; the buffer, as it was before the run, is left as it is after it.
+pub fn run_plainly(net: &[u32], g: Given, buffer: &mut [u32], picks: &[u32]) -> Outcome {
+    let judged = judge_input(net, g, buffer, picks);
+    if judged.refusal != 0 {
+        return judged;
+    }
+    let st = take_picks(net, g, counts_of(net, front(buffer, g.m)), picks);
+    leave(net, g, st, buffer)
 }

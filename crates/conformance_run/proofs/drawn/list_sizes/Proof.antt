@@ -7,10 +7,10 @@ use Rattle.conformance_run.proofs.drawn.list_sizes.Statement.{statement
 use Rattle.conformance_run.proofs.drawn.list_sizes.Tie as tie
 
 abbrev Inv-loop : tie.InvT-loop
-Inv-loop net c sizes₀ list₀ count t₀ sizes list t = length sizes ≡ length sizes₀
+Inv-loop net c sizes₀ count t₀ sizes t = length sizes ≡ length sizes₀
 
 abbrev μ-loop : tie.MeasureT-loop
-μ-loop net c sizes₀ list₀ count t₀ sizes list t = count - t
+μ-loop net c sizes₀ count t₀ sizes t = count - t
 
 get-requires : tie.Need-get-requires Inv-loop μ-loop
 get-requires c κs = search needs
@@ -18,17 +18,11 @@ get-requires c κs = search needs
 loop-holds : tie.Need-loop-holds Inv-loop μ-loop
 loop-holds c = refl
 
-shape-of-requires : tie.Need-shape-of-requires Inv-loop μ-loop
-shape-of-requires c κs = search needs
-
-slice-aggregate-list-all : tie.Need-slice-aggregate-list-all Inv-loop μ-loop
-slice-aggregate-list-all c = search needs
-
-list-all-requires : tie.Need-list-all-requires Inv-loop μ-loop
-list-all-requires c κs = search needs
-
 wide-requires : tie.Need-wide-requires Inv-loop μ-loop
 wide-requires c κs = search needs
+
+list-size-requires : tie.Need-list-size-requires Inv-loop μ-loop
+list-size-requires c κs = search needs
 
 put-requires : tie.Need-put-requires Inv-loop μ-loop
 put-requires c κs = search needs
@@ -56,10 +50,8 @@ list-sizes-spec =
     μ-loop
     get-requires
     loop-holds
-    shape-of-requires
-    slice-aggregate-list-all
-    list-all-requires
     wide-requires
+    list-size-requires
     put-requires
     add-t
     loop-less
