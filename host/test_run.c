@@ -153,7 +153,7 @@ static void more_picks(struct words *picks, unsigned transitions) {
     for (uint64_t k = random_below(3); k > 0; k--) picks->at[picks->length++] = pick_word((uint32_t)random_below(transitions), random_below(3));
 }
 
-/* Picks that a run from the marking fires, at most `most`, and now and then one that it refuses and some behind it. */
+/* Picks that a run from the marking fires, at most `most`, and for about every third list one that it refuses and some behind it. */
 static struct need draw_picks(const struct words *net, const struct words *marking, size_t most, struct words *picks) {
     static uint32_t now[MOST_WORDS], next[MOST_WORDS], menu[MENU_ROOM];
     static struct net read;
@@ -171,9 +171,9 @@ static struct need draw_picks(const struct words *net, const struct words *marki
         if (bindings == 0) continue;
         uint64_t index = random_below(random_below(2) == 0 && bindings > 3 ? 3 : bindings);
         struct refusal r = ref_fire(net->at, net->length, transition, now, length, menu + index * variables, variables, next, MOST_WORDS, &words);
-        if (r.number != 0 && random_below(3) != 0) continue;
+        if (r.number != 0 && random_below(3 + most / 20) != 0) continue;
         picks->at[picks->length++] = pick_word(transition, index);
-        if (r.number == 0 && random_below(60) == 0) { /* an index that the menu has not; what it needs still counts */
+        if (r.number == 0 && random_below(20 + most) == 0) { /* an index that the menu has not; what it needs still counts */
             picks->at[picks->length - 1] = pick_word(transition, random_below(4) == 0 ? 16383 : bindings);
             r.number = bindings < 16384 ? 12 : 0;
         }
@@ -276,6 +276,35 @@ static void try_damaged(const struct need *need) {
     }
 }
 
+/* A pick of a binding whose outputs meet counts near the limit, have no value or leave their places; which of 14, 15 and 16 is told first. */
+static void situation_run(enum taste taste) {
+    static uint32_t menu[MENU_ROOM];
+    static struct words binding;
+    static struct net read;
+    size_t end;
+    uint64_t bindings, tries;
+    if (random_below(2) == 0) random_net(&input.net, 0);
+    else random_run(taste, &input.net, &input.marking);
+    if (ref_read_net(input.net.at, input.net.length, &read, &end).number != 0) return;
+    for (unsigned draws = 0; draws < 8; draws++) {
+        uint32_t transition = (uint32_t)random_below(read.transitions);
+        unsigned variables = read.transition[transition].variables;
+        random_situation(&read, transition, &input.marking, &binding);
+        if (ref_menu(input.net.at, input.net.length, transition, input.marking.at, input.marking.length, 3000, menu, MENU_ROOM, &bindings, &tries).number != 0) continue;
+        if (bindings == 0) continue;
+        uint64_t index = 0;
+        while (index < bindings && !kept(menu + index * variables, binding.at, 4 * variables)) index++;
+        if (index == bindings) continue;
+        input.picks.length = 2;
+        input.picks.at[0] = pick_word(transition, index);
+        input.picks.at[1] = pick_word(transition, 0);
+        suffice(&(struct need){(uint32_t)tries, bindings * variables, input.marking.length}, 0);
+        input.spare += random_below(6);
+        input.buffer += random_below(6);
+        try_run(&input);
+    }
+}
+
 void round_runs(enum taste taste, size_t most_picks) {
     struct need need = {0, 0, 0};
     for (unsigned draws = 0; draws < 6; draws++) { /* a few draws for a run of some picks */
@@ -286,25 +315,27 @@ void round_runs(enum taste taste, size_t most_picks) {
     if (input.marking.length > MOST_WORDS || ref_check(input.net.at, input.net.length).number != 0) return;
     try_short(&need);
     try_damaged(&need);
+    situation_run(taste);
 }
 
-/* A marking of about 16,384 words; a token moves to a colour that has none, so that the marking grows past its room or the limit. */
+/* A marking of about 16,384 words; a token moves to a colour that has none, so that the marking grows past its room or, where there is more, the limit. */
 static void long_marking(void) {
     static struct words binding;
     struct need need = {16384, MOST_ENTRIES, 0};
-    long_situation(&input.net, &input.marking, &binding);
-    input.picks.length = 0;
-    for (unsigned k = 0; k < 3; k++) input.picks.at[input.picks.length++] = pick_word(0, random_below(random_below(2) == 0 ? 4 : 8300));
-    suffice(&need, 0);
-    input.spare = MOST_WORDS - 2 + random_below(8);
-    input.buffer = longer(input.m, MOST_WORDS - 2 + random_below(8));
-    try_run(&input);
+    for (unsigned k = 0; k < 4; k++) {
+        long_situation(&input.net, &input.marking, &binding);
+        input.picks.length = 0;
+        for (unsigned i = 0; i < 3; i++) input.picks.at[input.picks.length++] = pick_word(0, random_below(random_below(2) == 0 ? 4 : 8300));
+        suffice(&need, 0);
+        input.spare = MOST_WORDS - 2 + random_below(16);
+        input.buffer = longer(input.m, MOST_WORDS - 2 + random_below(16));
+        try_run(&input);
+    }
     input.budget = 16383;
     try_run(&input);
     damage(&input.marking);
-    suffice(&need, MOST_WORDS);
-    input.buffer = longer(input.marking.length, MOST_WORDS);
-    input.spare = MOST_WORDS;
+    suffice(&need, 0);
+    input.spare = input.buffer = longer(input.marking.length, MOST_WORDS);
     try_run(&input);
 }
 
@@ -343,9 +374,9 @@ static void wide_menus(unsigned kind) {
 }
 
 void round_long_runs(unsigned kind) {
-    if (kind % 4 == 0) long_marking();
+    if (kind % 2 == 0) long_marking();
+    else wide_menus(kind / 2);
     long_net();
-    if (kind % 2 == 0) wide_menus(kind / 2);
 }
 
 /* ── What was met ── */
