@@ -13,7 +13,7 @@ ghost use Rattle.accept.specs.Front.{IsPlanned};
 ghost use Rattle.expression.specs.declared.read.Skipped.the-variants.{Refused};
 
 // No net, but a refusal.
-fn refused_index(n: u32, p: usize) -> NetIndex
+pub fn refused_index(n: u32, p: usize) -> NetIndex
     ensures { λ r. ⌜ r .end ≡ Refused n p ⌝ }
 {
     let none = [0usize; 64];

@@ -26,7 +26,7 @@ pub struct Changes {
 }
 
 // Copies the words from one position to another.
-fn copy_words(words: &[u32], from: usize, to: usize, next: &mut [u32], at: usize)
+pub fn copy_words(words: &[u32], from: usize, to: usize, next: &mut [u32], at: usize)
     requires { ⌜ (from ≤ to) × (to ≤ length (now words)) × (at + (to - from) ≤ length (now next)) ⌝ }
     ensures { λ r. ⌜ now (next .exit) ≡ written (now (next .entry)) at (slice from to (now (words .entry))) ⌝ }
 {

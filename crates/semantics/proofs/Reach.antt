@@ -162,6 +162,19 @@ module _ (table : List ℕ) (net : Net) (l : Limits) (sound : SoundNet net) wher
   leg-proper m m′ proper g =
       subst (Proper net) (sym (g .leads)) (step-proper table net (g .transition) m (g .binding) proper (outputs-there net sound (g .transition) (at-member (net .transitions) (g .number) (g .transition) (g .named))) (g .step))
 
+  -- What a pick that fires leaves: the words of the new counts are an accepted marking, and it has room.
+  pub record Marks (m′ : Counts) : Type 0 where
+    pub entries : List Entry
+    pub marked : readMarking net (markingWords net m′) ≡ read entries (length (markingWords net m′))
+    pub counted : countsOf entries ≡ m′
+    pub roomy : length (markingWords net m′) ≤ l .room
+
+  pub pick-marks : (m m′ : Counts) (w : ℕ) → Proper net m → pick table net l m w ≡ moved m′ → Marks m′
+  pick-marks m m′ w proper e =
+      let g = pick-leg m m′ w proper e in
+      let x = words-marking net (sound .few-places) (narrow net sound) m′ (leg-proper m m′ proper g) (g .short) in
+      record { entries = x .0; marked = x .1; counted = x .2; roomy = g .room }
+
   -- ── Lists of picks, and chains of steps ──
 
   -- a run that no pick stopped is a chain of as many steps

@@ -1,0 +1,103 @@
+-- The rules of firing into the spare and copying back: what fire leaves at the front of the spare is at the front of the buffer afterwards.
+use mathlib.Core.Path.{_≡_, refl, sym, ap, _∙_, subst}
+use mathlib.Core.List.{List, [], _∷_, _++_, append-assoc}
+use Prim.Native.Nat.{ℕ, _+_, _-_, _*_, min, _≤_}
+use native.Mathlib.Omega.{arith}
+use lib.ListN.{length, take, drop, length-append, length-take}
+use lib.Seq.{slice, length-take-le, take-at, take-append-le}
+use Rattle.semantics.specs.declared.Fired.{Fired}
+use Rattle.semantics.specs.declared.Fired.the-variants.{Written, Refused as FireRefused}
+use Rattle.semantics.specs.Expression.{houseTable}
+use Rattle.semantics.specs.Net.{Net}
+use Rattle.semantics.specs.Marking.{countsOf, markingWords}
+use Rattle.semantics.specs.Enabling.{Firing, moved, stopped}
+use Rattle.semantics.specs.Run.{fire}
+use Rattle.semantics.specs.Calls.{FireEnd, firedBy}
+use Rattle.semantics.proofs.Tests.{false-true}
+use Rattle.net.specs.declared.index.TransitionIndex.{TransitionIndex}
+use Rattle.firing.specs.Fire.{Fireable, fireEnd, IsFired}
+use Rattle.firing.specs.Patch.{written}
+use Rattle.run.specs.declared.pick.Picked.{Picked}
+use Rattle.run.specs.Pick.{Leaves, Fires, row, FiresRow, IsFiredAt}
+
+-- what fire answers and leaves, by what it comes to
+by-refused : (net : Net) (part after : List ℕ) (n p : ℕ) (x : Firing) → fireEnd (FireRefused n p) after ≡ firedBy net part x → x ≡ stopped n
+by-refused net part after n p (moved m) e = let a : FireRefused n p ≡ Written (length (markingWords net m)) = ap (λ (f : FireEnd). f .answer) e in false-true (cc)
+by-refused net part after n p (stopped k) e = let a : FireRefused n p ≡ FireRefused k 0 = ap (λ (f : FireEnd). f .answer) e in cc
+
+pub record Fired-into (net : Net) (part after : List ℕ) (next : ℕ) (x : Firing) : Type 0 where
+  pub words : List ℕ
+  pub size : next ≡ length words
+  pub front : take next after ≡ words
+  pub leaves : (r : Picked) (buffer : List ℕ) (s : ℕ) (b : List ℕ) → r .refusal ≡ 0 → r .length ≡ next → take next b ≡ words → Leaves net buffer s r b x
+
+by-written : (net : Net) (part after : List ℕ) (next : ℕ) (x : Firing) → fireEnd (Written next) after ≡ firedBy net part x → Fired-into net part after next x
+by-written net part after next (stopped k) e = let a : Written next ≡ FireRefused k 0 = ap (λ (f : FireEnd). f .answer) e in false-true (cc)
+by-written net part after next (moved m) e =
+    let a : Written next ≡ Written (length (markingWords net m)) = ap (λ (f : FireEnd). f .answer) e in
+    let n : next ≡ length (markingWords net m) = cc in
+    record {
+      words = markingWords net m;
+      size = n;
+      front = ap (take next) (ap (λ (f : FireEnd). f .buffer) e) ∙ take-at (markingWords net m) (drop (length (markingWords net m)) part) next (sym n);
+      leaves = λ r buffer s b f g h. (f, g ∙ n, ap (λ (k : ℕ). take k b) g ∙ h);
+    }
+
+module _ {ws ps : List ℕ} {t : TransitionIndex} {begins : List ℕ} (buffer : List ℕ) (size : ℕ) (spare : List ℕ) {bs : List ℕ} {room : ℕ} (e : room ≡ min (length spare) (length buffer)) {a : Fired} {after : List ℕ} (f : IsFired ws ps t (take size buffer) begins bs (take room spare) a after) where
+  roomy : length (take room spare) ≡ min (length buffer) (length spare)
+  roomy = let l = length-take room spare in omega arith
+
+  comes : (q : Fireable ws ps t (take size buffer) begins bs) → fireEnd a after ≡ firedBy (q .net) (take room spare) (fire houseTable (q .net) (min (length buffer) (length spare)) (q .transition) (countsOf (q .entries)) (q .binding))
+  comes q = f .fired q ∙ ap (λ (k : ℕ). firedBy (q .net) (take room spare) (fire houseTable (q .net) k (q .transition) (countsOf (q .entries)) (q .binding))) roomy
+
+  pub fired-refused : {n p : ℕ} → a ≡ FireRefused n p → IsFiredAt ws ps t begins buffer size spare bs (record { refusal = n; length = size }) buffer
+  fired-refused {n} {p} d = record { fired = λ q. let s = by-refused (q .net) (take room spare) after n p (fire houseTable (q .net) (min (length buffer) (length spare)) (q .transition) (countsOf (q .entries)) (q .binding)) (subst (λ (x : Fired). fireEnd x after ≡ firedBy (q .net) (take room spare) (fire houseTable (q .net) (min (length buffer) (length spare)) (q .transition) (countsOf (q .entries)) (q .binding))) d (comes q)) in subst (Leaves (q .net) buffer size (record { refusal = n; length = size }) buffer) (sym s) (refl, refl) }
+
+  module _ {next : ℕ} (d : a ≡ Written next) where
+    into : (q : Fireable ws ps t (take size buffer) begins bs) → Fired-into (q .net) (take room spare) after next (fire houseTable (q .net) (min (length buffer) (length spare)) (q .transition) (countsOf (q .entries)) (q .binding))
+    into q = by-written (q .net) (take room spare) after next (fire houseTable (q .net) (min (length buffer) (length spare)) (q .transition) (countsOf (q .entries)) (q .binding)) (subst (λ (x : Fired). fireEnd x after ≡ firedBy (q .net) (take room spare) (fire houseTable (q .net) (min (length buffer) (length spare)) (q .transition) (countsOf (q .entries)) (q .binding))) d (comes q))
+
+    pub written-fits : Fireable ws ps t (take size buffer) begins bs → length after ≡ length (take room spare) → next ≤ room
+    written-fits q l =
+        let i = into q in
+        let n = i .size in
+        let m = ap length (i .front) in
+        let k = length-take next after in
+        let r = length-take room spare in
+        omega arith
+
+    -- the new marking stands in the spare and has room in the buffer
+    pub copy-fits : (rest : List ℕ) → length after ≡ length (take room spare) → next ≤ room → (0 ≤ next) × (next ≤ length (after ++ rest)) × (0 + (next - 0) ≤ length buffer)
+    copy-fits rest l h =
+        let r = length-take room spare in
+        let k = length-append after rest in
+        (omega arith, omega (arith, l, r, e, h, k), omega (arith, e, h))
+
+    pub fired-written : {b : List ℕ} (rest : List ℕ) → length after ≡ length (take room spare) → next ≤ room → b ≡ written buffer 0 (slice 0 next (after ++ rest)) → IsFiredAt ws ps t begins buffer size spare bs (record { refusal = 0; length = next }) b
+    fired-written {b} rest l h g = record { fired = λ q. let i = into q in i .leaves (record { refusal = 0; length = next }) buffer size b refl refl (front ∙ i .front) }
+      where
+        r : length (take room spare) ≡ min room (length spare)
+        r = length-take room spare
+
+        inside : next ≤ length after
+        inside = omega (arith, l, r, e, h)
+
+        cut : slice 0 next (after ++ rest) ≡ take next after
+        cut = take-append-le next after rest inside
+
+        front : take next b ≡ take next after
+        front = ap (take next) (g ∙ ap (written buffer 0) cut) ∙ take-at (take next after) (drop (0 + length (take next after)) buffer) next (length-take-le next after inside)
+
+-- the part of a menu from a row's first word to its last
+module _ {ws ps : List ℕ} {t : TransitionIndex} {begins buffer : List ℕ} {size : ℕ} {menu : List ℕ} {i : ℕ} (Q : FiresRow ws ps t begins buffer size menu i) {v : ℕ} (e : v ≡ min (t .variables) 8) where
+  pub row-within : i * v + v ≤ length menu
+  row-within = rw e (Q .within)
+
+  row-is : take (i * v + v - i * v) (drop (i * v) menu) ≡ row (min (t .variables) 8) i menu
+  row-is = let d : i * v + v - i * v ≡ v = omega arith in ap (λ (k : ℕ). take k (drop (i * v) menu)) d ∙ ap (λ (k : ℕ). row k i menu) e
+
+  pub row-fires : Fires ws ps t begins buffer size (take (i * v + v - i * v) (drop (i * v) menu))
+  row-fires = rw row-is (Q .fires)
+
+  pub row-fired : {spare : List ℕ} {r : Picked} {b : List ℕ} → IsFiredAt ws ps t begins buffer size spare (take (i * v + v - i * v) (drop (i * v) menu)) r b → IsFiredAt ws ps t begins buffer size spare (row (min (t .variables) 8) i menu) r b
+  row-fired {spare} {r} {b} = subst (λ (l : List ℕ). IsFiredAt ws ps t begins buffer size spare l r b) row-is

@@ -1,0 +1,283 @@
+-- The rules of one pick: its transition stands at its position, so its menu may be listed; what is listed is what semantics offers; and the binding at the
+-- pick's index may be fired.
+use mathlib.Core.Path.{_≡_, refl, sym, ap, _∙_, subst}
+use mathlib.Core.List.{List, [], _∷_, _++_, map, flatMap, append-assoc, List·Memᴰ}
+use mathlib.Core.Bool.{true}
+use mathlib.Core.Option.{Option, none, some}
+use Prim.Native.Nat.{ℕ, zero, suc, _+_, _*_, _/_, _%_, min, _≤_, _<_}
+use native.Mathlib.Omega.{arith}
+use native.Mathlib.Nat.{suc-mul, zero-mul}
+use lib.IntN.{ℤ}
+use lib.Signed.{mag}
+use lib.ListN.{length, getD, getElem?, take, drop, length-map, length-append}
+use lib.Seq.{take-at, drop-at, drop-drop}
+use Rattle.semantics.specs.declared.Listed.{Listed}
+use Rattle.semantics.specs.declared.Listed.the-variants.{Found, Refused as MenuRefused}
+use Rattle.semantics.specs.Refusal.{noSuchIndex}
+use Rattle.semantics.specs.Lists.{Every}
+use Rattle.semantics.specs.Word.{Range, bits, valueWord}
+use Rattle.semantics.specs.Expression.{houseTable, bound}
+use Rattle.semantics.specs.Reading.{Reading, read, refused}
+use Rattle.semantics.specs.Net.{Arc, Conjunct, Element, Transition, Net}
+use Rattle.semantics.specs.ReadNet.{readTransition}
+use Rattle.semantics.specs.Plan.{acceptNet}
+use Rattle.semantics.specs.Order.{inRanges}
+use Rattle.semantics.specs.Marking.{Entry, Counts, pickTransition, pickIndex, countsOf, markingWords}
+use Rattle.semantics.specs.Enabling.{Firing, moved, stopped}
+use Rattle.semantics.specs.Run.{menu, Offer, offered, withheld, offer, fire, Limits, fireAt, pickFrom, pickOf, pick}
+use Rattle.semantics.specs.Calls.{Situation, MenuEnd, listedBy, limits}
+use Rattle.semantics.proofs.Tests.{false-true, Every-of}
+use Rattle.semantics.proofs.Members.{none-some, at-length, length-at, at-member}
+use Rattle.semantics.proofs.Accepted.{SoundArc, SoundTransition, transition-sound, accepted-read, accepted-planned}
+use Rattle.semantics.proofs.Offer.{Made, offer-made}
+use Rattle.semantics.proofs.Menu.{menu-members}
+use Rattle.expression.specs.Evaluate.{lent}
+use Rattle.net.specs.declared.index.TransitionIndex.{TransitionIndex}
+use Rattle.net.specs.Skim.{Outline, outline, skimTransition}
+use Rattle.net.specs.Index.{transitionRead, outlined}
+use Rattle.net.specs.Places.{rangesFrom, placesAt, PlacesFit}
+use Rattle.net.proofs.Located.{At, net-transitions}
+use Rattle.net.proofs.Placed.{index-outline, variables-placed}
+use Rattle.marking.specs.declared.index.MarkingIndex.{MarkingIndex}
+use Rattle.marking.specs.Marked.{markingRead, Begins, IsMarking}
+use Rattle.marking.proofs.Bound.{ranged-length, ranged-small}
+use Rattle.occurrence.proofs.Reading.{binding-lent}
+use Rattle.firing.specs.Fire.{Fireable}
+use Rattle.rows.proofs.Rows.{row-room}
+use Rattle.tries.specs.World.{World}
+use Rattle.search.specs.Scene.{netOf, transitionOf, countsIn, sceneOf}
+use Rattle.search.specs.Search.{menuEnd}
+use Rattle.search.specs.Menu.{Listable, IsListed}
+use Rattle.run.specs.declared.pick.Picked.{Picked}
+use Rattle.run.specs.Start.{NetKnown}
+use Rattle.run.specs.Pick.{Leaves, row, FiresRow, IsFiredAt, Pickable, IsPicked}
+
+-- ── What was listed ──
+
+withheld-is : (buffer after : List ℕ) (n p : ℕ) (x : Offer) → menuEnd (MenuRefused n p) after ≡ listedBy buffer x → x ≡ withheld n
+withheld-is buffer after n p (offered bs w) e = let a : MenuRefused n p ≡ Found (length bs) w = ap (λ (m : MenuEnd). m .answer) e in false-true (cc)
+withheld-is buffer after n p (withheld k) e = let a : MenuRefused n p ≡ MenuRefused k 0 = ap (λ (m : MenuEnd). m .answer) e in cc
+
+pub record Lists (buffer after : List ℕ) (n : ℕ) (x : Offer) : Type 0 where
+  pub bindings : List (List ℤ)
+  pub tries : ℕ
+  pub is : x ≡ offered bindings tries
+  pub many : n ≡ length bindings
+  pub words : after ≡ flatMap (map valueWord) bindings ++ drop (length (flatMap (map valueWord) bindings)) buffer
+
+offered-is : (buffer after : List ℕ) (n w : ℕ) (x : Offer) → menuEnd (Found n w) after ≡ listedBy buffer x → Lists buffer after n x
+offered-is buffer after n w (withheld k) e = let a : Found n w ≡ MenuRefused k 0 = ap (λ (m : MenuEnd). m .answer) e in false-true (cc)
+offered-is buffer after n w (offered bs v) e =
+    let a : Found n w ≡ Found (length bs) v = ap (λ (m : MenuEnd). m .answer) e in
+    let l : n ≡ length bs = cc in
+    record { bindings = bs; tries = v; is = refl; many = l; words = ap (λ (m : MenuEnd). m .buffer) e }
+
+-- the words of one binding among those of all, which have one width
+binding-words : (bs : List (List ℤ)) (v : ℕ) → Every (λ (b : List ℤ). length b ≡ v) bs → (i : ℕ) (b : List ℤ) → getElem? bs i ≡ some b → (rest : List ℕ) → take v (drop (i * v) (flatMap (map valueWord) bs ++ rest)) ≡ map valueWord b
+unfolding flatMap
+binding-words [] v h i b e rest = none-some e
+binding-words (x ∷ bs) v h zero b e rest =
+    let z = zero-mul v in
+    let q : x ≡ b = cc in
+    let l : length (map valueWord x) ≡ v = length-map x valueWord ∙ h .0 in
+    ap (λ (l : List ℕ). take v (drop (0 * v) l)) (append-assoc (map valueWord x) (flatMap (map valueWord) bs) rest)
+    ∙ ap (λ (k : ℕ). take v (drop k (map valueWord x ++ (flatMap (map valueWord) bs ++ rest)))) z
+    ∙ take-at (map valueWord x) (flatMap (map valueWord) bs ++ rest) v l ∙ ap (map valueWord) q
+binding-words (x ∷ bs) v h (suc i) b e rest =
+    let z : suc i * v ≡ v + i * v = omega (arith, suc-mul i v) in
+    let l : length (map valueWord x) ≡ v = length-map x valueWord ∙ h .0 in
+    ap (λ (l : List ℕ). take v (drop (suc i * v) l)) (append-assoc (map valueWord x) (flatMap (map valueWord) bs) rest)
+    ∙ ap (λ (k : ℕ). take v (drop k (map valueWord x ++ (flatMap (map valueWord) bs ++ rest)))) z
+    ∙ ap (take v) (sym (drop-drop (i * v) v (map valueWord x ++ (flatMap (map valueWord) bs ++ rest))))
+    ∙ ap (λ (l : List ℕ). take v (drop (i * v) l)) (drop-at (map valueWord x) (flatMap (map valueWord) bs ++ rest) v l)
+    ∙ binding-words bs v (h .1) i b e rest
+
+flat-length : (bs : List (List ℤ)) (v : ℕ) → Every (λ (b : List ℤ). length b ≡ v) bs → length (flatMap (map valueWord) bs) ≡ length bs * v
+unfolding flatMap
+flat-length [] v h = sym (zero-mul v)
+flat-length (x ∷ bs) v h =
+    let l = length-append (map valueWord x) (flatMap (map valueWord) bs) in
+    let m = length-map x valueWord in
+    let i = flat-length bs v (h .1) in
+    let f = h .0 in
+    let s = suc-mul (length bs) v in
+    omega arith
+
+past-end : {A : Type 0} (l : List A) (i : ℕ) → length l ≤ i → getElem? l i ≡ none
+past-end [] i h = refl
+past-end (x ∷ xs) zero h = absurd (omega arith)
+past-end (x ∷ xs) (suc i) h = past-end xs i (omega arith)
+
+position-at : (ts : List Transition) (i : ℕ) (t : Transition) → getElem? ts i ≡ some t → getD (map (λ (t : Transition). t .position) ts) i 0 ≡ t .position
+position-at [] i t h = none-some h
+position-at (x ∷ xs) zero t h = let q : x ≡ t = cc in ap (λ (t : Transition). t .position) q
+position-at (x ∷ xs) (suc i) t h = position-at xs i t h
+
+member-has : {A : Type 0} (P : A → Type 0) (l : List A) (i : ℕ) (a : A) → Every P l → getElem? l i ≡ some a → P a
+member-has P [] i a e h = none-some h
+member-has P (x ∷ xs) zero a e h = let q : x ≡ a = cc in subst P q (e .0)
+member-has P (x ∷ xs) (suc i) a e h = member-has P xs i a (e .1) h
+
+every-arc : (P Q : Arc → Type 0) → ((a : Arc) → P a → Q a) → (l : List Arc) → Every P l → Every Q l
+every-arc P Q f [] e = tt
+every-arc P Q f (x ∷ xs) e = (f x (e .0), every-arc P Q f xs (e .1))
+
+-- ── The transition of a pick ──
+
+module _ {ws ps widths transitions buffer : List ℕ} {size w : ℕ} (P : Pickable ws ps widths transitions buffer size w) where
+  abbrev net : Net
+  net = netOf (acceptNet ws)
+
+  -- the index, as the code reads it
+  index-is : w % 16384 ≡ pickIndex w
+  index-is = omega arith
+
+  pub chosen : (t : Transition) × (getElem? (net .transitions) (pickTransition w) ≡ some t)
+  chosen = length-at (net .transitions) (pickTransition w) (P .there)
+
+  pub among : pickTransition w < length transitions
+  among = let l = ap length (P .known .stand) ∙ length-map (net .transitions) (λ (t : Transition). t .position) in let h = P .there in omega arith
+
+  stands : At (readTransition ws (net .places)) (λ (t : Transition). t .position) (chosen .0)
+  stands = member-has (At (readTransition ws (net .places)) (λ (t : Transition). t .position)) (net .transitions) (pickTransition w) (chosen .0) (net-transitions ws 0 net (P .known .whole) (accepted-read ws net (P .known .whole) (P .known .accepted))) (chosen .1)
+
+  at-position : getD transitions (pickTransition w) 0 ≡ chosen .0 .position
+  at-position = ap (λ (l : List ℕ). getD l (pickTransition w) 0) (P .known .stand) ∙ position-at (net .transitions) (pickTransition w) (chosen .0) (chosen .1)
+
+  reads : readTransition ws (net .places) (getD transitions (pickTransition w) 0) ≡ read (chosen .0) (stands .next)
+  reads = rw at-position (stands .reads)
+
+  pub scene-is : sceneOf ws (getD transitions (pickTransition w) 0) (take size buffer) ≡ record { net = net; transition = chosen .0; counts = countsOf (P .entries) }
+  unfolding sceneOf
+  scene-is = rw (reads, P .marked)
+
+  -- ── Its menu ──
+
+  module _ (t : TransitionIndex) (y : transitionRead t ≡ skimTransition ws widths (getD transitions (pickTransition w) 0)) (k : MarkingIndex) (z : IsMarking (placesAt ws ps) (take size buffer) k) where
+    outlines : outlined t ≡ outline (chosen .0)
+    outlines = index-outline ws (net .places) (getD transitions (pickTransition w) 0) t (rw (P .known .wide) at y) (chosen .0) (stands .next) reads .0
+
+    begun : Begins (P .entries) (k .begins)
+    begun = record { at = λ p l. z .begins (P .entries) (P .end) (subst (λ ps′. markingRead ps′ (take size buffer) ≡ read (P .entries) (P .end)) (P .known .placed) (P .marked)) p l }
+
+    pub pick-listable : length (k .begins) ≡ 65 → Listable ws ps (getD transitions (pickTransition w) 0) t (take size buffer) (k .begins)
+    pick-listable l = record { world = subst (World ws ps (getD transitions (pickTransition w) 0) (t .variables) (outlined t .inputs) (outlined t .guard) (outlined t .plan) (take size buffer) (k .begins)) (sym scene-is) world }
+      where
+        world : World ws ps (getD transitions (pickTransition w) 0) (t .variables) (outlined t .inputs) (outlined t .guard) (outlined t .plan) (take size buffer) (k .begins) (record { net = net; transition = chosen .0; counts = countsOf (P .entries) })
+        world = record {
+          whole = P .known .whole;
+          accepted = P .known .accepted;
+          placed = P .known .placed;
+          fits = P .known .fits;
+          after = stands .next;
+          there = reads;
+          many = ap (λ (o : Outline). o .variables) outlines;
+          arcs = ap (λ (o : Outline). o .inputs) outlines;
+          guards = ap (λ (o : Outline). o .guard) outlines;
+          plan = ap (λ (o : Outline). o .plan) outlines;
+          faultless = accepted-planned ws net (P .known .whole) (P .known .accepted) (chosen .0) (at-member (net .transitions) (pickTransition w) (chosen .0) (chosen .1));
+          entries = P .entries;
+          end = P .end;
+          marked = P .marked;
+          counted = refl;
+          begun = begun;
+          beginnings = l;
+        }
+
+    module _ (budget : ℕ) (spare menus : List ℕ) {a : Listed} {after : List ℕ} (i : IsListed ws (getD transitions (pickTransition w) 0) (take size buffer) budget menus a after) where
+      counts-are : countsIn (markingRead (net .places) (take size buffer)) ≡ countsOf (P .entries)
+      counts-are = rw (P .marked)
+
+      offer-is : menuEnd a after ≡ listedBy menus (offer houseTable net budget (length menus) (chosen .0) (countsOf (P .entries)))
+      offer-is = i .listed ∙ ap (λ (s : Situation). listedBy menus (offer houseTable (s .net) budget (length menus) (s .transition) (s .counts))) scene-is
+
+      pick-is : pick houseTable net (limits budget buffer spare menus) (countsIn (markingRead (net .places) (take size buffer))) w ≡ pickFrom houseTable net (limits budget buffer spare menus) (chosen .0) (countsOf (P .entries)) (pickIndex w) (offer houseTable net budget (length menus) (chosen .0) (countsOf (P .entries)))
+      unfolding pick
+      pick-is = rw (chosen .1, counts-are)
+
+      leaves-by : {r : Picked} {b : List ℕ} {x : Firing} → pickFrom houseTable net (limits budget buffer spare menus) (chosen .0) (countsOf (P .entries)) (pickIndex w) (offer houseTable net budget (length menus) (chosen .0) (countsOf (P .entries))) ≡ x → Leaves net buffer size r b x → IsPicked ws budget buffer size spare menus w r b
+      leaves-by {r} {b} e l = record { picked = subst (Leaves net buffer size r b) (sym (pick-is ∙ e)) l }
+
+      -- 10 and 11
+      pub pick-withheld : {n p : ℕ} → a ≡ MenuRefused n p → IsPicked ws budget buffer size spare menus w (record { refusal = n; length = size }) buffer
+      pick-withheld {n} {p} d =
+          let o = withheld-is menus after n p (offer houseTable net budget (length menus) (chosen .0) (countsOf (P .entries))) (subst (λ (x : Listed). menuEnd x after ≡ listedBy menus (offer houseTable net budget (length menus) (chosen .0) (countsOf (P .entries)))) d offer-is) in
+          leaves-by (ap (pickFrom houseTable net (limits budget buffer spare menus) (chosen .0) (countsOf (P .entries)) (pickIndex w)) o) (refl, refl)
+
+      module _ {n v : ℕ} (d : a ≡ Found n v) where
+        lists : Lists menus after n (offer houseTable net budget (length menus) (chosen .0) (countsOf (P .entries)))
+        lists = offered-is menus after n v (offer houseTable net budget (length menus) (chosen .0) (countsOf (P .entries))) (subst (λ (x : Listed). menuEnd x after ≡ listedBy menus (offer houseTable net budget (length menus) (chosen .0) (countsOf (P .entries)))) d offer-is)
+
+        picks-at : {o : Option (List ℤ)} → getElem? (lists .bindings) (pickIndex w) ≡ o → pickFrom houseTable net (limits budget buffer spare menus) (chosen .0) (countsOf (P .entries)) (pickIndex w) (offer houseTable net budget (length menus) (chosen .0) (countsOf (P .entries))) ≡ fireAt houseTable net (limits budget buffer spare menus) (chosen .0) (countsOf (P .entries)) o
+        picks-at e = ap (pickFrom houseTable net (limits budget buffer spare menus) (chosen .0) (countsOf (P .entries)) (pickIndex w)) (lists .is) ∙ ap (fireAt houseTable net (limits budget buffer spare menus) (chosen .0) (countsOf (P .entries))) e
+
+        -- 12
+        pub pick-past : n ≤ w % 16384 → IsPicked ws budget buffer size spare menus w (record { refusal = noSuchIndex; length = size }) buffer
+        pick-past h = let m = lists .many in let x = index-is in leaves-by (picks-at (past-end (lists .bindings) (pickIndex w) (omega arith))) (refl, refl)
+
+        -- ── The binding at its index ──
+
+        module _ (h : w % 16384 < n) where
+          abbrev v′ : ℕ
+          v′ = min (t .variables) 8
+
+          picked : (b : List ℤ) × (getElem? (lists .bindings) (w % 16384) ≡ some b)
+          picked = let m = lists .many in length-at (lists .bindings) (w % 16384) (omega arith)
+
+          in-menu : lists .bindings ≡ menu houseTable (chosen .0) (countsOf (P .entries))
+          in-menu = offer-made houseTable net budget (length menus) (chosen .0) (countsOf (P .entries)) (lists .bindings) (lists .tries) (lists .is) .whole
+
+          ranged : (b : List ℤ) → List·Memᴰ b (lists .bindings) → inRanges (chosen .0 .variables) b ≡ true
+          ranged b j = menu-members houseTable (chosen .0) (countsOf (P .entries)) b .0 (subst (List·Memᴰ b) in-menu j) .0
+
+          sound : SoundTransition (net .places) (chosen .0)
+          sound = transition-sound ws (net .places) (getD transitions (pickTransition w) 0) (chosen .0) (stands .next) reads
+
+          as-many : v′ ≡ length (chosen .0 .variables)
+          as-many = let a = ap (λ (o : Outline). o .variables) outlines in let f = sound .few-variables in omega arith
+
+          wide : Every (λ (b : List ℤ). length b ≡ v′) (lists .bindings)
+          wide = Every-of (λ (b : List ℤ). length b ≡ v′) (lists .bindings) (λ b j. ranged-length (chosen .0 .variables) b (ranged b j) ∙ sym as-many)
+
+          b-ranged : inRanges (chosen .0 .variables) (picked .0) ≡ true
+          b-ranged = ranged (picked .0) (at-member (lists .bindings) (w % 16384) (picked .0) (picked .1))
+
+          b-words : take v′ (drop ((w % 16384) * v′) after) ≡ map valueWord (picked .0)
+          b-words = ap (λ (l : List ℕ). take v′ (drop ((w % 16384) * v′) l)) (lists .words) ∙ binding-words (lists .bindings) v′ wide (w % 16384) (picked .0) (picked .1) (drop (length (flatMap (map valueWord) (lists .bindings))) menus)
+
+          b-small : Every (λ z. mag z < 8192) (picked .0)
+          b-small = ranged-small ws (length (chosen .0 .variables)) (getD transitions (pickTransition w) 0 + 1) (picked .0) (rw (← variables-placed ws (net .places) (getD transitions (pickTransition w) 0) (chosen .0) (stands .next) reads) b-ranged)
+
+          fireable : Fireable ws ps t (take size buffer) (k .begins) (row v′ (w % 16384) after)
+          fireable = record {
+            net = net;
+            at = getD transitions (pickTransition w) 0;
+            transition = chosen .0;
+            after = stands .next;
+            entries = P .entries;
+            end = P .end;
+            binding = picked .0;
+            placed = P .known .placed;
+            there = reads;
+            outlines = outlines;
+            outputs = every-arc (SoundArc (net .places) (length (chosen .0 .variables))) (λ (a : Arc). a .place < length (net .places)) (λ a s. s .there) (chosen .0 .outputs) (sound .outputs);
+            marked = P .marked;
+            begun = begun;
+            many = ap length b-words ∙ length-map (picked .0) valueWord ∙ ranged-length (chosen .0 .variables) (picked .0) b-ranged;
+            values = binding-lent (row v′ (w % 16384) after) (picked .0) b-words b-small;
+          }
+
+          -- the words of the binding stand in the menu
+          inside : (w % 16384) * v′ + v′ ≤ length after
+          inside =
+              let l = ap length (lists .words) ∙ length-append (flatMap (map valueWord) (lists .bindings)) (drop (length (flatMap (map valueWord) (lists .bindings))) menus) in
+              let f = flat-length (lists .bindings) v′ wide in
+              let m = lists .many in
+              row-room (w % 16384) (length (lists .bindings)) v′ (length after) (omega arith) (omega arith)
+
+          pub pick-fires : length (k .begins) ≡ 65 → FiresRow ws ps t (k .begins) buffer size after (w % 16384)
+          pick-fires l = record { within = inside; fires = record { fits = P .known .fits; beginnings = l; inside = P .inside; fireable = fireable } }
+
+          pub pick-fired : {r : Picked} {b : List ℕ} → IsFiredAt ws ps t (k .begins) buffer size spare (row v′ (w % 16384) after) r b → IsPicked ws budget buffer size spare menus w r b
+          unfolding fireable
+          pick-fired f = leaves-by (picks-at (ap (getElem? (lists .bindings)) (sym index-is) ∙ picked .1)) (f .fired fireable)

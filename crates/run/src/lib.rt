@@ -1,0 +1,8 @@
+// Runs of picks: the marking after each pick is the one that the next pick starts from.
+
+// What a run starts from.
+pub mod begin;
+// One pick.
+pub mod pick;
+// The call run.
+pub mod run;

@@ -1,0 +1,121 @@
+// The call run: picks fired one after the other, each from the marking that the one before it left.
+use crate::begin::begin;
+use crate::pick::pick_once;
+use accept::plan::at_most;
+use expression::read::Skipped;
+use search::menu::clear;
+use semantics::Outcome;
+ghost use mathlib.Core.Path.{_≡_};
+ghost use Rattle.semantics.specs.Calls.{runCall};
+ghost use Rattle.run.specs.Run.{Runnable, HasRunFrom, runEnd};
+
+// Where a run ended: picks done, the refusal that stopped it or 0, and the length of the marking.
+pub struct Ended {
+    pub done: usize,
+    pub refusal: u32,
+    pub length: usize,
+}
+
+// Fires the picks in turn; the first one that is refused ends the run.
+fn fire_picks(
+    net: &[u32],
+    places: &[usize],
+    widths: &[usize],
+    transitions: &[usize],
+    budget: u32,
+    buffer: &mut [u32],
+    m: usize,
+    spare: &mut [u32],
+    menu: &mut [u32],
+    picks: &[u32],
+) -> Ended
+    requires { ⌜ Runnable (now net) (now places) (now widths) (now transitions) (now buffer) m (now picks) ⌝ }
+    ensures { λ r. ⌜ HasRunFrom (now (net .entry)) budget (now (buffer .entry)) m (now (spare .entry)) (now (menu .entry)) (now (picks .entry)) r (now (buffer .exit)) ⌝ }
+{
+    let mut done = 0;
+    let mut length = m;
+    loop {
+        if picks.len() <= done {
+            break Ended {
+                done: done,
+                refusal: 0,
+                length: length,
+            };
+        }
+        let one = pick_once(
+            net,
+            places,
+            widths,
+            transitions,
+            budget,
+            buffer,
+            length,
+            spare,
+            menu,
+            picks[done],
+        );
+        let refusal = one.refusal;
+        if refusal != 0 {
+            break Ended {
+                done: done,
+                refusal: refusal,
+                length: length,
+            };
+        }
+        length = one.length;
+        done += 1;
+    }
+}
+
+// The first refusal of net, picks and marking; or the picks fired, the rest of the buffer, the spare and the menu cleared.
+pub fn run(
+    net: &[u32],
+    budget: u32,
+    buffer: &mut [u32],
+    m: usize,
+    spare: &mut [u32],
+    menu: &mut [u32],
+    picks: &[u32],
+) -> Outcome
+    ensures { λ r. ⌜ runEnd r (now (buffer .exit)) (now (spare .exit)) (now (menu .exit)) ≡ runCall (now (net .entry)) budget (now (buffer .entry)) m (now (spare .entry)) (now (menu .entry)) (now (picks .entry)) ⌝ }
+{
+    let index = begin(net, buffer, m, picks);
+    let end = index.end;
+    match end {
+        Skipped::Refused(n, p) => Outcome {
+            done: 0,
+            refusal: n,
+            position: p,
+            length: 0,
+        },
+        Skipped::Next(_) => {
+            let places = at_most(64, index.places);
+            let transitions = at_most(64, index.transitions);
+            let places_at = index.places_at;
+            let widths = index.widths;
+            let transitions_at = index.transitions_at;
+            let ended = fire_picks(
+                net,
+                &places_at[..places],
+                &widths[..places],
+                &transitions_at[..transitions],
+                budget,
+                buffer,
+                m,
+                spare,
+                menu,
+                picks,
+            );
+            let length = ended.length;
+            clear(&mut buffer[length..]);
+            clear(spare);
+            clear(menu);
+            Outcome {
+                done: ended.done,
+                refusal: ended.refusal,
+                position: 0,
+                length: length,
+            }
+        }
+    }
+}
