@@ -12,3 +12,5 @@ pub mod test;
 pub mod menu;
 // Fire.
 pub mod fire;
+// Run.
+pub mod runs;
