@@ -1,23 +1,12 @@
-// A fixed sequence of numbers, and nets drawn from it: places 0 with colours (-1) to (2), 1 with (0, -1) to (1, 1), 2 with (3) and (4); one transition
+// Nets drawn from a fixed sequence of numbers: places 0 with colours (-1) to (2), 1 with (0, -1) to (1, 1), 2 with (3) and (4); one transition
 // of variables x from -1 to 2 and y from 0 to 3. What an expression is worth under x and y is worked out where it is drawn.
 //
 // A signed number is a u32 that wraps; all are small.
 use conformance_plain::build::put;
+use conformance_plain::draw::next;
+use conformance_plain::draw::pick;
 use std::num::wrapping_add_u32;
 use std::num::wrapping_sub_u32;
-
-// The next state of the sequence.
-pub fn next(seed: u64) -> u64 {
-    (seed % 0x8000_0000 * 1_103_515_245 + 12_345) % 0x8000_0000
-}
-
-// The number of a state, below n.
-pub fn pick(seed: u64, n: u32) -> u32 {
-    if n == 0 {
-        return 0;
-    }
-    (seed / 0x1_0000 % 0x8000) as u32 % n
-}
 
 // An expression that was drawn: the position after its words, the state of the sequence, whether it has a value, and the value.
 pub struct Drawn {

@@ -1,7 +1,7 @@
 // Holds the calls test and fire against a plain firing on counts, on nets, markings and bindings drawn from a fixed sequence of numbers, and prints how
 // many cases had which answer. The numbers in the file stdout beside this folder were worked out from document 01 with the same sequence.
 
-// A sequence of numbers and expressions drawn from it.
+// Drawn nets.
 mod draw;
 // Plain firing on counts.
 mod plain;

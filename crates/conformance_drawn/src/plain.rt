@@ -4,20 +4,10 @@
 // A flow, what an arc says under a binding, is five numbers: place, 1 if all its expressions have values and 0 if not, coefficient, components.
 use crate::draw::is_negative;
 use conformance_plain::build::put;
+use conformance_plain::reading::get;
+use conformance_plain::reading::wide;
 use std::num::wrapping_add_u32;
 use std::num::wrapping_sub_u32;
-
-fn wide(w: u32) -> usize {
-    w as usize
-}
-
-// The number at a position, 0 beyond the end.
-pub fn get(numbers: &[u32], at: usize) -> u32 {
-    if at < numbers.len() {
-        return numbers[at];
-    }
-    0
-}
 
 // Where a colour's count stands; 12 for a colour that the place does not have.
 fn index_of(place: u32, a: u32, b: u32) -> usize {

@@ -3,20 +3,22 @@ use crate::draw::Drawn;
 use crate::draw::coefficient;
 use crate::draw::component;
 use crate::draw::expression;
-use crate::draw::next;
-use crate::draw::pick;
 use crate::plain::add_flows;
 use crate::plain::covered;
-use crate::plain::get;
 use crate::plain::list_entries;
 use crate::plain::move_tokens;
 use conformance_plain::build::front;
 use conformance_plain::build::put;
 use conformance_plain::build::write;
+use conformance_plain::draw::next;
+use conformance_plain::draw::pick;
+use conformance_plain::reading::get;
+use conformance_plain::reading::less;
 use conformance_report::report::fill;
 use conformance_report::report::fire_into;
 use conformance_report::report::first_changed;
 use conformance_report::report::heading;
+use conformance_report::report::same_words;
 use conformance_report::report::say_fire;
 use conformance_report::report::say_test;
 use conformance_report::report::say_words;
@@ -282,13 +284,6 @@ fn told(z: Input, number: u32, position: usize) -> Input {
     d
 }
 
-fn less(n: usize) -> usize {
-    if n == 0 {
-        return 0;
-    }
-    n - 1
-}
-
 fn damage_net(net: &mut [u32], z: Input, k: u32) -> Input {
     let last = less(z.net);
     let mut d = z;
@@ -413,18 +408,6 @@ fn fire_plainly(
         number: refusal(enabled, gives, fits, room, length),
         length: length,
     }
-}
-
-// Whether the first n words are equal.
-fn same_words(a: &[u32], b: &[u32], n: usize) -> bool {
-    let mut i = 0;
-    while i < n {
-        if get(a, i) != get(b, i) {
-            return false;
-        }
-        i += 1;
-    }
-    true
 }
 
 fn same_test(t: Tested, z: Input, p: Plain) -> bool {

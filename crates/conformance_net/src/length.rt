@@ -1,11 +1,11 @@
 // Nets of 16,384 words and around, built by loops from transitions whose expressions have 15 words each.
-use crate::build::put;
-use crate::build::repeat;
-use crate::build::write;
 use crate::nets::good;
 use crate::report::case;
 use crate::report::heading;
 use crate::report::line;
+use conformance_plain::build::put;
+use conformance_plain::build::repeat;
+use conformance_plain::build::write;
 
 // An expression of 15 words: the sum of eight zeros.
 fn sum(words: &mut [u32], at: usize) -> usize {

@@ -1,8 +1,6 @@
 // Prints what the calls check and split answer on nets, good and damaged in one place, a line for each case. What each line has to say was worked
 // out from document 01 and stands in the file stdout beside this folder.
 
-// Words put into a buffer.
-mod build;
 // Nets that end early.
 mod ends;
 // Nets of 16,384 words.

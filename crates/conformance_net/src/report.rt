@@ -1,8 +1,8 @@
 // Lines of the output: the case, and what check and split answer on its words.
-use crate::build::front;
-use crate::build::put;
 use accept::check::check;
 use accept::split::split;
+use conformance_plain::build::front;
+use conformance_plain::build::put;
 use semantics::Verdict;
 
 fn refused(n: u32, p: usize) {

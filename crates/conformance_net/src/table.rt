@@ -1,6 +1,4 @@
 // Tables of cases, a line each: its name, ` | ` and words, from which the form of the table makes a net.
-use crate::build::front;
-use crate::build::write;
 use crate::nets::counted;
 use crate::nets::damaged;
 use crate::nets::headed;
@@ -8,6 +6,12 @@ use crate::nets::kinds;
 use crate::nets::stray;
 use crate::report::check_line;
 use crate::report::split_line;
+use conformance_plain::build::front;
+use conformance_plain::build::write;
+use conformance_plain::reading::wide;
+use conformance_plain::text::after;
+use conformance_plain::text::find;
+use conformance_plain::text::part;
 
 // What the words after a name are.
 pub enum Form {
@@ -33,10 +37,6 @@ pub enum Form {
     Check,
     // the words of an outside case of split
     Split,
-}
-
-fn wide(w: u32) -> usize {
-    w as usize
 }
 
 // The cases whose words are numbers.
@@ -99,39 +99,6 @@ fn run(form: Form, name: &[u8], text: &[u8]) {
             run_numbers(form, name, text);
         }
     }
-}
-
-// The position of a byte from a start on, or the length where there is none.
-fn find(text: &[u8], start: usize, b: u8) -> usize {
-    let mut at = start;
-    while at < text.len() {
-        if text[at] == b {
-            return at;
-        }
-        at += 1;
-    }
-    text.len()
-}
-
-// A position moved on, as far as the text goes.
-fn after(text: &[u8], at: usize, bytes: usize) -> usize {
-    if at < text.len() {
-        if bytes < text.len() - at {
-            return at + bytes;
-        }
-    }
-    text.len()
-}
-
-// The bytes from a start to an end.
-fn part(text: &[u8], start: usize, end: usize) -> &[u8] {
-    if text.len() < end {
-        return text;
-    }
-    if end < start {
-        return text;
-    }
-    &text[start..end]
 }
 
 // The line at a position: its name ends a space before the bar, its words begin a space after it.
