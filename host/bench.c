@@ -2,9 +2,13 @@
  * Times of the library beside those of the reference, on the same input in the same run. Both are called once before the clock starts, so that
  * caches are warm. The reference keeps its structures from call to call; the library makes its tables anew on the stack, and clears them.
  *
- * Menus are timed by the try: the time of a call divided by its tries. Their reference is a search made for speed (reference_menu.c).
+ * Menus are timed by the try: the time of a call divided by its tries. Their reference is a search made for speed (reference_menu.c). Runs are timed
+ * by the pick, in bench_run.c; their reference (reference_run.c) has regard to speed too.
+ *
+ *     bench DIRECTORY      where the nets of host/nets are
  */
 #define _POSIX_C_SOURCE 200809L
+#include "bench_run.h"
 #include "gimletlemon.h"
 #include "random.h"
 #include "reference.h"
@@ -177,7 +181,11 @@ static void to_bytes(const struct words *w) {
     for (size_t i = 0; i < 4 * w->length; i++) bytes[i] = (uint8_t)(w->at[i / 4] >> 8 * (i % 4));
 }
 
-int main(void) {
+int main(int argc, char **argv) {
+    if (argc != 2) {
+        fprintf(stderr, "usage: bench DIRECTORY\n");
+        return 2;
+    }
     net = &example_net;
     if (ref_check(net->at, net->length).number != 0) return 1;
     to_bytes(net);
@@ -217,5 +225,7 @@ int main(void) {
     compare_menus("menu, a match over 3,000 colours, guard", 500);
     three_matches(&searched);
     compare_menus("menu, three matches with shared variables", 100);
+
+    bench_runs(argv[1]);
     return 0;
 }

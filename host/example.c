@@ -1,4 +1,4 @@
-/* Example a of document 01: one pump place with twenty tokens, and a transition that gives two shares of them. */
+/* Example a of document 01: one pump place with twenty tokens, and a transition that gives two shares of them; at the end a short game with forty. */
 #include "gimletlemon.h"
 
 #include <inttypes.h>
@@ -24,6 +24,38 @@ static int32_t value_of(uint32_t word) {
     return bits < 0x2000 ? bits : bits - 0x4000;
 }
 
+static void print_words(const uint32_t *words, uint64_t length) {
+    for (uint64_t i = 0; i < length; i++) printf(" %08" PRIX32, words[i]);
+    printf("\n");
+}
+
+/* every binding that is enabled in a marking */
+static void list(const uint32_t *words, size_t length) {
+    uint32_t menu[16];
+    uint64_t bindings, tries, position;
+    uint32_t refusal = gimletlemon_menu(net, WORDS(net), 0, words, length, 1000, menu, WORDS(menu), &bindings, &tries, &position);
+    printf("menu: refusal %" PRIu32 ", %" PRIu64 " bindings, %" PRIu64 " tries:", refusal, bindings, tries);
+    for (uint64_t i = 0; i < bindings; i++) printf(" (%" PRId32 ", %" PRId32 ")", value_of(menu[2 * i]), value_of(menu[2 * i + 1]));
+    printf("\n");
+}
+
+/* A game: load a marking with forty tokens, list, pick, list. Bindings are picked by their index in the list. */
+static void play(void) {
+    uint32_t buffer[8] = {0xB0000028, 0xC0000000}, spare[8], menu[16];
+    const uint32_t picks[] = {0xD0000003, 0xD0000000, 0xD0000000}; /* of transition 0: indices 3, 0 and 0 */
+    uint64_t done, length, position;
+    list(buffer, 2);
+    uint32_t refusal = gimletlemon_run(net, WORDS(net), 1000, buffer, WORDS(buffer), 2, spare, WORDS(spare), menu, WORDS(menu), picks, 1, &done, &length, &position);
+    printf("pick 3: refusal %" PRIu32 ", %" PRIu64 " done, marking:", refusal, done);
+    print_words(buffer, length);
+    list(buffer, length);
+    /* two picks in one run: the first takes the last tokens, and the second finds no binding at its index */
+    refusal = gimletlemon_run(net, WORDS(net), 1000, buffer, WORDS(buffer), length, spare, WORDS(spare), menu, WORDS(menu), picks + 1, 2, &done, &length, &position);
+    printf("pick 0, pick 0: refusal %" PRIu32 ", %" PRIu64 " done, marking:", refusal, done);
+    print_words(buffer, length);
+    list(buffer, length);
+}
+
 int main(void) {
     uint64_t position, rest;
     uint32_t refusal = gimletlemon_check(net, WORDS(net), &position);
@@ -47,20 +79,15 @@ int main(void) {
         printf("(12, %" PRIu32 "): refusal %" PRIu32 ", %s\n", second, refusal, enabled ? "enabled" : "not enabled");
     }
 
-    /* every binding that is enabled */
-    uint32_t menu[16];
-    uint64_t bindings, tries;
-    refusal = gimletlemon_menu(net, WORDS(net), 0, marking, WORDS(marking), 1000, menu, WORDS(menu), &bindings, &tries, &position);
-    printf("menu: refusal %" PRIu32 ", %" PRIu64 " bindings, %" PRIu64 " tries:", refusal, bindings, tries);
-    for (uint64_t i = 0; i < bindings; i++) printf(" (%" PRId32 ", %" PRId32 ")", value_of(menu[2 * i]), value_of(menu[2 * i + 1]));
-    printf("\n");
+    list(marking, WORDS(marking));
 
     const uint32_t binding[] = {0xC000000B, 0xC0000008};
     uint32_t next[8];
     uint64_t length;
     refusal = gimletlemon_fire(net, WORDS(net), 0, marking, WORDS(marking), binding, WORDS(binding), next, WORDS(next), &length, &position);
     printf("fire (11, 8): refusal %" PRIu32 ", new marking:", refusal);
-    for (uint64_t i = 0; i < length; i++) printf(" %08" PRIX32, next[i]);
-    printf("\n");
+    print_words(next, length);
+
+    play();
     return 0;
 }

@@ -39,8 +39,9 @@ enum gimletlemon_refusal {
     GIMLETLEMON_BAD_WORD = 3,       /* wrong kind, stray bit, number beyond its limit, place or variable missing, expression too long; net */
     GIMLETLEMON_WORDS_LEFT = 4,     /* words left after the net; net */
     GIMLETLEMON_UNFIT_PLAN = 5,     /* an element that does not fit, or a variable left unbound (at the TRANSITION); net */
-    GIMLETLEMON_NO_TRANSITION = 6,  /* the net has no such transition; position 0 */
-    GIMLETLEMON_BAD_MARKING = 7,    /* marking malformed, out of order or over 16,384 words; marking. On bytes also: not whole words */
+    GIMLETLEMON_NO_TRANSITION = 6,  /* the net has no such transition; position 0, in a run that of the first such pick; picks */
+    GIMLETLEMON_BAD_MARKING = 7,    /* marking malformed, out of order or over 16,384 words; marking. On bytes also: not whole words. In a run
+                                       also: longer than the buffer that it stands in, at the buffer's length */
     GIMLETLEMON_BAD_BINDING = 8,    /* binding malformed, too short, too long or out of range; binding. On bytes also: not whole words */
     GIMLETLEMON_BAD_PICK = 9,       /* a pick of wrong kind or with stray bits; picks */
 
@@ -51,7 +52,7 @@ enum gimletlemon_refusal {
     GIMLETLEMON_NOT_ENABLED = 13,   /* the binding is not enabled */
     GIMLETLEMON_BAD_OUTPUT = 14,    /* an output without value, negative, or outside its place */
     GIMLETLEMON_OVER_COUNT = 15,    /* a count would pass 16,383 */
-    GIMLETLEMON_OVER_ROOM = 16      /* the new marking is longer than its buffer, or than 16,384 words */
+    GIMLETLEMON_OVER_ROOM = 16      /* the new marking is longer than its buffer, in a run than the shorter of buffer and spare, or than 16,384 words */
 };
 
 /*
@@ -137,6 +138,42 @@ uint32_t gimletlemon_fire(const uint32_t *net, size_t net_length, uint32_t trans
  */
 uint32_t gimletlemon_menu(const uint32_t *net, size_t net_length, uint32_t transition, const uint32_t *marking, size_t marking_length,
                           uint32_t budget, uint32_t *menu, size_t menu_length, uint64_t *bindings, uint64_t *tries, uint64_t *position);
+
+/*
+ * Plays picks one after the other: each pick fires the binding at its index in the menu of its transition, and the marking after it is the one that
+ * the next pick starts from. All input is checked before the first pick. Returns 0 where every pick was fired; a refusal from 1 to 7 or 9 where the
+ * input is refused and nothing was done; or 10, 11, 12, 14, 15 or 16 for the pick that could not be fired.
+ *
+ * A pick is a PICK word: 0xD0000000 | transition << 14 | index. Transitions count from 0 and are below the net's number of them; the index, from 0 to
+ * 16,383, counts the bindings in the order in which gimletlemon_menu lists them in the marking that the picks before it have left.
+ *
+ * The first pick that is refused ends the run; this is the stop. The buffer then holds the marking before that pick, *done is how many picks were
+ * fired before it, so that picks[*done] is the refused one, and later picks are not looked at. What stops a pick is, the lowest number first:
+ *   GIMLETLEMON_OVER_BUDGET     its menu takes more tries than the budget; every pick has the whole budget
+ *   GIMLETLEMON_OVER_MENU       its menu has more than 16,383 bindings, or does not fit into `menu`
+ *   GIMLETLEMON_NO_SUCH_INDEX   its menu has no binding at the pick's index
+ *   GIMLETLEMON_BAD_OUTPUT, GIMLETLEMON_OVER_COUNT
+ *                               the binding is enabled, but firing it is refused, as by gimletlemon_fire
+ *   GIMLETLEMON_OVER_ROOM       the new marking is longer than the room, which is the shorter of buffer_length and spare_length, or than 16,384 words
+ *
+ *   net, net_length        the words of the net
+ *   budget                 how many tries the menu of each pick may take
+ *   buffer, buffer_length  the marking to start from is its first m words; the marking at the end is written to its front
+ *   m                      how many words the marking to start from has; 0 is the empty marking
+ *   spare, spare_length    working space for a new marking. With 16,384 words each, buffer and spare have room for every marking
+ *   menu, menu_length      working space for a menu; 131,064 words are enough for every menu
+ *   picks, picks_length    the picks, as many as there are; none is a run too
+ *   done                   where the number of picks fired is written, 0 where the input is refused
+ *   length                 where the number of words of the marking at the end is written, 0 where the input is refused
+ *   position               where the refusal's position is written: 1 to 5 in the net, 6 and 9 the index of the pick, 7 in the buffer; else 0
+ *
+ * What happens to the three buffers, of which none overlaps another or any other slice:
+ *   input refused          all three stay as they were
+ *   else, stop or not      the first *length words of `buffer` are the marking, the rest of it is zero; all of `spare` and all of `menu` is zero
+ */
+uint32_t gimletlemon_run(const uint32_t *net, size_t net_length, uint32_t budget, uint32_t *buffer, size_t buffer_length, size_t m, uint32_t *spare,
+                         size_t spare_length, uint32_t *menu, size_t menu_length, const uint32_t *picks, size_t picks_length, uint64_t *done,
+                         uint64_t *length, uint64_t *position);
 
 #ifdef __cplusplus
 }

@@ -391,15 +391,29 @@ static unsigned menu_plan(struct words *w, const struct outline *t, enum taste t
     return elements;
 }
 
-static void menu_transition(struct words *w, int32_t middle, const unsigned *widths, unsigned places, enum taste taste) {
+/* What a transition puts: nothing, as for menus; or, for runs, what any arcs put, or what arcs put of which most give back what an input arc takes, so
+   that runs do not soon end for want of tokens. */
+enum outputs { NO_OUTPUTS, ANY_OUTPUTS, MOSTLY_BACK };
+
+static void menu_transition(struct words *w, int32_t middle, const unsigned *widths, unsigned places, enum taste taste, enum outputs outputs) {
     unsigned v = one_in(10) ? (unsigned)random_below(9) : one_in(12) ? 0 : 1 + (unsigned)random_below(3);
     unsigned i = one_in(10) ? (unsigned)random_below(9) : 1 + (unsigned)random_below(3);
+    unsigned o = outputs == NO_OUTPUTS ? 0 : outputs == MOSTLY_BACK ? i : (unsigned)random_below(one_in(10) ? 9 : 5);
     unsigned g = (unsigned)random_below(one_in(15) ? 9 : taste == SOLVES_FIRST ? 4 : 3);
     struct outline t = {.variables = v, .inputs = i, .conjuncts = g};
-    size_t at = w->length;
+    size_t at = w->length, arcs[9];
     push(w, 0);
     for (unsigned k = 0; k < v; k++) narrow_range(w, middle, v > 3 ? 2 : 6);
-    for (unsigned k = 0; k < i; k++) t.matches[k] = menu_arc(w, middle, widths, places, v);
+    for (unsigned k = 0; k < i; k++) {
+        arcs[k] = w->length;
+        t.matches[k] = menu_arc(w, middle, widths, places, v);
+    }
+    arcs[i] = w->length;
+    for (unsigned k = 0; k < o; k++) {
+        if (outputs == MOSTLY_BACK && !one_in(4))
+            for (size_t a = arcs[k]; a < arcs[k + 1]; a++) push(w, w->at[a]);
+        else menu_arc(w, middle, widths, places, v);
+    }
     for (unsigned k = 0; k < g; k++) {
         t.relation[k] = one_in(2) || taste == SOLVES_FIRST ? 0 : (unsigned)random_below(4);
         push(w, 0x60000000u | t.relation[k]);
@@ -407,7 +421,7 @@ static void menu_transition(struct words *w, int32_t middle, const unsigned *wid
         menu_expression(w, middle, v, &t.right[k]);
     }
     unsigned elements = menu_plan(w, &t, taste);
-    if (at < ROOM) w->at[at] = 0x40000000u | elements << 16 | g << 12 | i << 4 | v;
+    if (at < ROOM) w->at[at] = 0x40000000u | elements << 16 | g << 12 | o << 8 | i << 4 | v;
 }
 
 /* any value of a narrow range; of all values one near either end, where a sum of 14 bits would come round */
@@ -416,13 +430,9 @@ static int32_t menu_colour(const struct range *r, int32_t middle) {
     return near(one_in(2) ? -8190 : 8189, -2, 2);
 }
 
-void random_menu(enum taste taste, struct words *net, struct words *marking, uint32_t *transition) {
-    static struct net read;
-    struct entry es[256];
-    unsigned places = 1 + (unsigned)random_below(3), transitions = 1 + (unsigned)random_below(2), widths[64];
-    int32_t middle = one_in(8) ? (one_in(2) ? -8190 : 8188) : 0;
-    size_t n = 0, end;
-    net->length = marking->length = 0;
+static void menu_net(struct words *net, int32_t middle, unsigned transitions, enum taste taste, enum outputs outputs) {
+    unsigned places = 1 + (unsigned)random_below(3), widths[64];
+    net->length = 0;
     push(net, 0x10000000u | places << 8 | transitions);
     for (unsigned i = 0; i < places; i++) {
         widths[i] = 1 + (unsigned)random_below(one_in(4) ? 4 : 2);
@@ -432,34 +442,63 @@ void random_menu(enum taste taste, struct words *net, struct words *marking, uin
             else narrow_range(net, middle - 2, 9);
         }
     }
-    for (unsigned i = 0; i < transitions; i++) menu_transition(net, middle, widths, places, taste);
-    *transition = (uint32_t)random_below(transitions);
-    if (ref_read_net(net->at, net->length, &read, &end).number != 0) return;
-    /* what some bindings take, and other colours */
+    for (unsigned i = 0; i < transitions; i++) menu_transition(net, middle, widths, places, taste, outputs);
+}
+
+/* what some bindings of a transition take, other colours, and now and then an empty place */
+static void menu_marking(const struct net *read, unsigned transition, int32_t middle, int near_limit, struct words *marking) {
+    struct entry es[256];
+    size_t n = 0;
     for (unsigned i = (unsigned)random_below(7); i > 0; i--) {
         int32_t values[8];
-        draw_values(&read.transition[*transition], values);
-        n = add_inputs(&read, &read.transition[*transition], values, es, n);
+        draw_values(&read->transition[transition], values);
+        n = add_inputs(read, &read->transition[transition], values, es, n);
     }
     for (size_t i = 0; i < n; i++)
         if (es[i].count > MOST_COUNT) es[i].count = MOST_COUNT;
-    for (unsigned i = 0; i < places; i++) {
+    for (unsigned i = 0; i < read->places; i++) {
         unsigned colours = one_in(8) ? 0 : 1 + (unsigned)random_below(one_in(8) ? 60 : 14);
         for (unsigned k = 0; k < colours; k++, n++) {
             memset(&es[n], 0, sizeof es[n]);
             es[n].place = i;
             es[n].count = random_between(1, 4);
-            for (unsigned c = 0; c < widths[i]; c++) es[n].colour[c] = menu_colour(&read.place[i].ranges[c], middle);
+            for (unsigned c = 0; c < read->place[i].width; c++) es[n].colour[c] = menu_colour(&read->place[i].ranges[c], middle);
         }
     }
+    if (near_limit)
+        for (size_t i = 0; i < n; i++)
+            if (one_in(2)) es[i].count = MOST_COUNT - random_between(0, 6);
     if (one_in(10)) { /* an empty place */
-        unsigned place = (unsigned)random_below(places);
+        unsigned place = (unsigned)random_below(read->places);
         size_t left = 0;
         for (size_t i = 0; i < n; i++)
             if (es[i].place != place) es[left++] = es[i];
         n = left;
     }
-    push_entries(&read, es, n, marking);
+    push_entries(read, es, n, marking);
+}
+
+void random_menu(enum taste taste, struct words *net, struct words *marking, uint32_t *transition) {
+    static struct net read;
+    unsigned transitions = 1 + (unsigned)random_below(2);
+    int32_t middle = one_in(8) ? (one_in(2) ? -8190 : 8188) : 0;
+    size_t end;
+    marking->length = 0;
+    menu_net(net, middle, transitions, taste, NO_OUTPUTS);
+    *transition = (uint32_t)random_below(transitions);
+    if (ref_read_net(net->at, net->length, &read, &end).number != 0) return;
+    menu_marking(&read, *transition, middle, 0, marking);
+}
+
+void random_run(enum taste taste, struct words *net, struct words *marking) {
+    static struct net read;
+    unsigned transitions = 1 + (unsigned)random_below(4);
+    int32_t middle = one_in(8) ? (one_in(2) ? -8190 : 8188) : 0;
+    size_t end;
+    marking->length = 0;
+    menu_net(net, middle, transitions, taste, one_in(3) ? ANY_OUTPUTS : MOSTLY_BACK);
+    if (ref_read_net(net->at, net->length, &read, &end).number != 0) return;
+    menu_marking(&read, (unsigned)random_below(transitions), middle, one_in(5), marking);
 }
 
 /* Ranges whose product is 16,383, 16,384 or 16,385, all bindings enabled, and a plan that takes the variables in any order. */
@@ -541,6 +580,16 @@ void damage(struct words *w) {
         w->at[at] = random_word();
         w->length++;
         break;
+    }
+}
+
+void damage_pick(struct words *picks) {
+    if (picks->length == 0) return;
+    uint32_t *word = &picks->at[random_below(picks->length)];
+    switch (random_below(3)) {
+    case 0: *word ^= 1u << random_below(14); break;
+    case 1: *word ^= 1u << (14 + random_below(8)); break;
+    default: *word ^= 1u << (22 + random_below(6)); break;
     }
 }
 

@@ -1,4 +1,4 @@
-/* Random nets, markings and bindings, good ones and damaged ones, from a seed. */
+/* Random nets, markings, bindings and picks, good ones and damaged ones, from a seed. */
 #ifndef RANDOM_H
 #define RANDOM_H
 
@@ -43,8 +43,14 @@ void random_menu(enum taste taste, struct words *net, struct words *marking, uin
    have these by turns */
 void wide_menu(unsigned kind, struct words *net, struct words *marking);
 
+/* a good net whose transitions also put tokens, and a marking of it with counts that now and then are near 16,383: runs of some length */
+void random_run(enum taste taste, struct words *net, struct words *marking);
+
 /* a word changed, dropped or added, a bit flipped, the end cut off or words put after it */
 void damage(struct words *w);
+
+/* a word of a pick list changed so that it still has the kind PICK: another transition, another index or a stray bit */
+void damage_pick(struct words *picks);
 
 /* an element of a plan of a good net changed, put later or left out */
 void damage_plan(struct words *net);

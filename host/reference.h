@@ -1,6 +1,7 @@
 /*
- * What document 01 says of check, split, test, fire and menu, once more and on its own: plain C, against which host/test.c holds the library.
- * Only the search for menus (reference_menu.c) has regard to speed. Nothing here is shared with the library but the layout of words.
+ * What document 01 says of check, split, test, fire, menu and run, once more and on its own: plain C, against which host/test.c holds the library.
+ * Only the search for menus (reference_menu.c) and the run (reference_run.c) have regard to speed. Nothing here is shared with the library but the
+ * layout of words.
  */
 #ifndef REFERENCE_H
 #define REFERENCE_H
@@ -92,6 +93,9 @@ struct refusal ref_plans(const struct net *net);
 struct refusal ref_read_marking(const struct net *net, const uint32_t *words, size_t length, struct marking *marking);
 struct refusal ref_read_binding(const struct transition *t, const uint32_t *words, size_t length, int32_t *values);
 
+/* A net alone: refusals 1 to 5. */
+struct refusal ref_accept_net(const uint32_t *words, size_t length, struct net *net);
+
 /* A net and a marking, and whether the net has the transition: refusals 1 to 7. */
 struct refusal ref_read_both(const uint32_t *net_words, size_t net_length, uint32_t transition, const uint32_t *marking_words, size_t marking_length,
                              struct net *net, struct marking *marking);
@@ -118,6 +122,10 @@ struct refusal ref_fire(const uint32_t *net, size_t net_length, uint32_t transit
                         const uint32_t *binding, size_t binding_length, uint32_t *next, size_t room, uint64_t *length);
 struct refusal ref_menu(const uint32_t *net, size_t net_length, uint32_t transition, const uint32_t *marking, size_t marking_length, uint32_t budget,
                         uint32_t *menu, size_t room, uint64_t *bindings, uint64_t *tries);
+
+struct refusal ref_run(const uint32_t *net, size_t net_length, uint32_t budget, uint32_t *buffer, size_t buffer_length, size_t m, uint32_t *spare,
+                       size_t spare_length, uint32_t *menu, size_t menu_length, const uint32_t *picks, size_t picks_length, uint64_t *done,
+                       uint64_t *length);
 
 /* All enabled bindings in order, by testing every binding: nothing of plans is in it. `list` has room for `most` bindings. Says no, and lists
    nothing, where the input is refused or the transition has more than `most` bindings. */

@@ -1,21 +1,26 @@
 /*
- * The menu by a search over the plan; see reference.h. Net and marking are read once into structures; then each try is made, and each binding that
- * the plan arrives at is tested. Those enabled are kept as numbers that rise as bindings rise, and are sorted only where they did not come in order.
+ * The menu by a search over the plan; see reference.h and reference_search.h. Net and marking are read once into structures; then each try is made,
+ * and each binding that the plan arrives at is tested. Those enabled are kept as numbers that rise as bindings rise, and are sorted only where they
+ * did not come in order.
  */
-#include "reference.h"
+#include "reference_search.h"
 
 #include <stdlib.h>
 
-/* ── Colours and bindings as numbers: 14 bits for a value, counted from -8,192, the first value highest ── */
+/* ── Colours and bindings as numbers ── */
 
 static uint64_t digit(int32_t value) { return (uint64_t)(value + 8192); }
 
 static bool is_value(int32_t number) { return -8192 <= number && number <= 8191; }
 
-/* variables 0 to 3, and 4 to 7 */
-struct key {
-    uint64_t high, low;
-};
+bool ref_colour(const int32_t *components, unsigned width, uint64_t *colour) {
+    *colour = 0;
+    for (unsigned i = 0; i < width; i++) {
+        if (!is_value(components[i])) return false;
+        *colour = *colour << 14 | digit(components[i]);
+    }
+    return true;
+}
 
 static int compare(const struct key *a, const struct key *b) {
     if (a->high != b->high) return a->high < b->high ? -1 : 1;
@@ -24,55 +29,14 @@ static int compare(const struct key *a, const struct key *b) {
 
 static int compare_keys(const void *a, const void *b) { return compare(a, b); }
 
-/* ── The search ── */
-
-/* what a match does with a component of its arc */
-enum part_sort { PART_NEW, PART_BOUND, PART_CONSTANT, PART_LATER };
-
-struct part {
-    enum part_sort sort;
-    int32_t number; /* a variable's number, a constant's value */
-};
-
-/* an element of the plan with what is known before the search begins */
-struct step {
-    unsigned sort;
-    const struct entry *from, *to; /* match: the place's entries */
-    unsigned width;
-    struct part parts[4];
-    unsigned variable; /* solve and range: the variable bound */
-    struct range range;
-    const struct expression *other; /* solve: the side with bound variables only */
-};
-
-enum { MOST_BINDINGS = 16383, MOST_KEPT = 2 * (MOST_BINDINGS + 1) };
-
-struct search {
-    struct net net;
-    struct marking marking;
-    uint64_t colours[MOST_ENTRIES + 16]; /* of the marking's entries, in their order */
-    size_t first[65];                    /* where a place's entries begin; they end where the next one's begin */
-    const struct transition *t;
-    struct step steps[8];
-    int32_t values[8];
-    uint64_t tries, budget;
-    size_t limit; /* how many bindings the menu may have */
-    bool over;    /* it has more */
-    size_t count; /* of those kept, which may stand there repeatedly and out of order if not tidy */
-    bool tidy;
-    struct key kept[MOST_KEPT];
-};
-
 /* ── Before the search ── */
 
-static void index_marking(struct search *s) {
+void ref_index_marking(struct search *s) {
     size_t i = 0;
     for (unsigned place = 0; place < 65; place++) {
         s->first[place] = i;
-        for (; i < s->marking.count && s->marking.entries[i].place == place; i++) {
-            s->colours[i] = 0;
-            for (unsigned k = 0; k < s->net.place[place].width; k++) s->colours[i] = s->colours[i] << 14 | digit(s->marking.entries[i].colour[k]);
-        }
+        for (; i < s->marking.count && s->marking.entries[i].place == place; i++)
+            ref_colour(s->marking.entries[i].colour, s->net.place[place].width, &s->colours[i]);
     }
 }
 
@@ -272,6 +236,27 @@ static bool arrive(struct search *s, unsigned k) {
     }
 }
 
+uint32_t ref_search(struct search *s, unsigned transition, uint32_t budget, size_t room) {
+    s->t = &s->net.transition[transition];
+    unsigned variables = s->t->variables;
+    prepare(s);
+    s->tries = s->count = 0;
+    s->budget = budget;
+    s->limit = variables > 0 && room / variables < MOST_BINDINGS ? room / variables : MOST_BINDINGS;
+    s->over = false;
+    s->tidy = true;
+    if (!arrive(s, 0)) return 10;
+    tidy(s);
+    return s->count > s->limit ? 11 : 0;
+}
+
+void ref_kept_values(const struct search *s, size_t index, int32_t *values) {
+    for (unsigned k = 0; k < s->t->variables; k++) {
+        uint64_t half = k < 4 ? s->kept[index].high : s->kept[index].low;
+        values[k] = (int32_t)(half >> 14 * (3 - k % 4) & 16383) - 8192;
+    }
+}
+
 /* ── The call ── */
 
 struct refusal ref_menu(const uint32_t *net, size_t net_length, uint32_t transition, const uint32_t *marking, size_t marking_length, uint32_t budget,
@@ -282,29 +267,16 @@ struct refusal ref_menu(const uint32_t *net, size_t net_length, uint32_t transit
     *bindings = *tries = 0;
     struct refusal r = ref_read_both(net, net_length, transition, marking, marking_length, &s->net, &s->marking);
     if (r.number != 0) return r;
-    s->t = &s->net.transition[transition];
-    unsigned variables = s->t->variables;
-    index_marking(s);
-    prepare(s);
-    s->tries = s->count = 0;
-    s->budget = budget;
-    s->limit = variables > 0 && room / variables < MOST_BINDINGS ? room / variables : MOST_BINDINGS;
-    s->over = false;
-    s->tidy = true;
-    if (!arrive(s, 0)) r.number = 10;
-    else {
-        tidy(s);
-        if (s->count > s->limit) r.number = 11;
-    }
+    ref_index_marking(s);
+    r.number = ref_search(s, transition, budget, room);
     if (r.number != 0) {
         for (size_t i = 0; i < room; i++) menu[i] = 0;
         return r;
     }
-    for (size_t i = 0; i < s->count; i++)
-        for (unsigned k = 0; k < variables; k++) {
-            uint64_t half = k < 4 ? s->kept[i].high : s->kept[i].low;
-            *menu++ = ref_value_word((int32_t)(half >> 14 * (3 - k % 4) & 16383) - 8192);
-        }
+    for (size_t i = 0; i < s->count; i++) {
+        ref_kept_values(s, i, s->values);
+        for (unsigned k = 0; k < s->t->variables; k++) *menu++ = ref_value_word(s->values[k]);
+    }
     *bindings = s->count;
     *tries = s->tries;
     return r;

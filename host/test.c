@@ -4,93 +4,22 @@
  *
  *     test [seed [rounds]]
  */
-#define _DEFAULT_SOURCE
+#include "compare.h"
 #include "gimletlemon.h"
 #include "random.h"
 #include "reference.h"
+#include "test_run.h"
 
 #include <inttypes.h>
 #include <stdio.h>
 #include <stdlib.h>
 #include <string.h>
-#include <sys/mman.h>
-#include <unistd.h>
 
-/* ── What was tried ── */
-
-enum call { CHECK, SPLIT, CHECK_BYTES, TEST, TEST_BYTES, FIRE, MENU, CALLS };
-
-static const char *const names[CALLS] = {"check", "split", "check_bytes", "test", "test_bytes", "fire", "menu"};
-static uint64_t met[CALLS][17], yes[CALLS], empty_menus, bindings_found, listed_menus, seed = 20240229, rounds = 60000, now_round;
-
-/* ── Buffers: after the last byte and before the first page comes a page that may not be touched ── */
-
-struct buffer {
-    uint8_t *base;
-    size_t room;
-};
+static uint64_t yes[CALLS], empty_menus, bindings_found, listed_menus, rounds = 60000;
 
 static struct buffer net_buffer, marking_buffer, binding_buffer, next_buffer, menu_buffer;
 
-static void make(struct buffer *b, size_t room) {
-    size_t page = (size_t)sysconf(_SC_PAGESIZE);
-    room = (room + page - 1) / page * page;
-    uint8_t *all = mmap(NULL, room + 2 * page, PROT_NONE, MAP_PRIVATE | MAP_ANONYMOUS, -1, 0);
-    if (all == MAP_FAILED || mprotect(all + page, room, PROT_READ | PROT_WRITE) != 0) {
-        perror("mmap");
-        exit(2);
-    }
-    b->base = all + page;
-    b->room = room;
-}
-
-/* a copy that ends where the page ends; an empty slice gets the address of a byte or word that is not used */
-static void *place(struct buffer *b, const void *from, size_t size) {
-    uint8_t *to = b->base + b->room - size;
-    if (size == 0) return to - 4;
-    memcpy(to, from, size);
-    return to;
-}
-
-/* ── Differences ── */
-
-static void print_words(const char *what, const uint32_t *words, size_t length) {
-    printf("%s, %zu words:", what, length);
-    for (size_t i = 0; i < length; i++) printf(" %08" PRIX32, words[i]);
-    printf("\n");
-}
-
-struct answer {
-    struct refusal refusal;
-    uint64_t number; /* rest, enabled, length or bindings */
-    uint64_t tries;  /* of a menu */
-};
-
-static void differs(enum call call, const char *what, struct answer library, struct answer reference) {
-    printf("%s differs in %s, seed %" PRIu64 ", round %" PRIu64 "\n", names[call], what, seed, now_round);
-    const struct answer *answers[] = {&library, &reference};
-    for (unsigned i = 0; i < 2; i++) {
-        printf("%s refusal %" PRIu32 " at %" PRIu64, i == 0 ? "library:  " : "reference:", answers[i]->refusal.number, answers[i]->refusal.position);
-        printf(", number %" PRIu64, answers[i]->number);
-        if (call == MENU) printf(", tries %" PRIu64, answers[i]->tries);
-        printf("\n");
-    }
-}
-
-/* Counts an answer; says whether library and reference agree. */
-static int agree(enum call call, struct answer library, struct answer reference) {
-    if (library.refusal.number != reference.refusal.number || library.refusal.position != reference.refusal.position || library.number != reference.number ||
-        library.tries != reference.tries) {
-        differs(call, "its answer", library, reference);
-        return 0;
-    }
-    met[call][reference.refusal.number]++;
-    return 1;
-}
-
 /* ── Check and split ── */
-
-static const uint64_t unwritten = 0xDEADBEEFDEADBEEFu;
 
 static void to_bytes(const struct words *w, uint8_t *bytes) {
     for (size_t i = 0; i < 4 * w->length; i++) bytes[i] = (uint8_t)(w->at[i / 4] >> 8 * (i % 4));
@@ -103,11 +32,6 @@ static size_t byte_length(const struct words *w, uint8_t *bytes) {
     if (random_below(2) == 0 && length > 3) return length - 1 - random_below(3);
     for (uint64_t k = random_below(4); k > 0; k--) bytes[length++] = (uint8_t)random_below(256);
     return length;
-}
-
-static void fail_net(const struct words *net) {
-    print_words("net", net->at, net->length);
-    exit(1);
 }
 
 static void try_net(const struct words *net) {
@@ -154,8 +78,6 @@ static void fail_situation(const struct words *net, uint32_t transition, const s
     fail_net(net);
 }
 
-static int kept(const void *lent, const void *was, size_t size) { return size == 0 || memcmp(lent, was, size) == 0; }
-
 static void try_test(const struct words *net, uint32_t transition, const struct words *marking, const struct words *binding) {
     static uint8_t net_bytes[4 * ROOM + 4], marking_bytes[4 * ROOM + 4], binding_bytes[4 * ROOM + 4];
     struct answer library = {{0, unwritten}, unwritten, 0}, reference = {{0, 0}, 0, 0};
@@ -195,20 +117,18 @@ static void try_fire(const struct words *net, uint32_t transition, const struct 
     /* room for any marking, about enough, or little */
     size_t room = random_below(2) == 0 ? MOST_WORDS : random_below(2) == 0 ? marking->length + random_below(6) : random_below(12);
     if (room > MOST_WORDS + 6) room = MOST_WORDS + 6;
-    for (size_t i = 0; i < room; i++) before[i] = (uint32_t)random_below(1ull << 32);
+    fill_words(before, room);
     memcpy(after, before, 4 * room);
     uint32_t *n = place(&net_buffer, net->at, 4 * net->length), *m = place(&marking_buffer, marking->at, 4 * marking->length);
     uint32_t *b = place(&binding_buffer, binding->at, 4 * binding->length), *next = place(&next_buffer, before, 4 * room);
-    uint8_t fence[64], *front = (uint8_t *)next - sizeof fence; /* what stands before the buffer */
-    memset(fence, 0x5A, sizeof fence);
-    memcpy(front, fence, sizeof fence);
+    set_fence(next);
     library.refusal.number = gimletlemon_fire(n, net->length, transition, m, marking->length, b, binding->length, next, room, &library.number, &library.refusal.position);
     reference.refusal = ref_fire(net->at, net->length, transition, marking->at, marking->length, binding->at, binding->length, after, room, &reference.number);
     if (!agree(FIRE, library, reference)) {
         printf("room %zu\n", room);
         fail_situation(net, transition, marking, binding);
     }
-    if (!kept(next, after, 4 * room) || !kept(front, fence, sizeof fence)) {
+    if (!kept(next, after, 4 * room) || !fence_kept(next)) {
         differs(FIRE, "the buffer", library, reference);
         print_words("library's buffer", next, room);
         print_words("reference's buffer", after, room);
@@ -254,19 +174,17 @@ static int same_list(const struct list *list, struct answer a, const uint32_t *m
 static void try_menu(const struct words *net, uint32_t transition, const struct words *marking, uint32_t budget, size_t room, const struct list *list) {
     static uint32_t before[MENU_ROOM], after[MENU_ROOM];
     struct answer library = {{0, unwritten}, unwritten, unwritten}, reference = {{0, 0}, 0, 0};
-    for (size_t i = 0; i < room; i++) before[i] = (uint32_t)random_below(1ull << 32);
+    fill_words(before, room);
     memcpy(after, before, 4 * room);
     uint32_t *n = place(&net_buffer, net->at, 4 * net->length), *m = place(&marking_buffer, marking->at, 4 * marking->length);
     uint32_t *menu = place(&menu_buffer, before, 4 * room);
-    uint8_t fence[64], *front = (uint8_t *)menu - sizeof fence;
-    memset(fence, 0x5A, sizeof fence);
-    memcpy(front, fence, sizeof fence);
+    set_fence(menu);
     library.refusal.number =
-        gimletlemon_menu(n, net->length, transition, m, marking->length, budget, menu, room, &library.number, &library.tries, &library.refusal.position);
+        gimletlemon_menu(n, net->length, transition, m, marking->length, budget, menu, room, &library.number, &library.second, &library.refusal.position);
     reference.refusal =
-        ref_menu(net->at, net->length, transition, marking->at, marking->length, budget, after, room, &reference.number, &reference.tries);
+        ref_menu(net->at, net->length, transition, marking->at, marking->length, budget, after, room, &reference.number, &reference.second);
     if (!agree(MENU, library, reference)) fail_menu(net, transition, marking, budget, room);
-    if (!kept(menu, after, 4 * room) || !kept(front, fence, sizeof fence)) {
+    if (!kept(menu, after, 4 * room) || !fence_kept(menu)) {
         differs(MENU, "the buffer", library, reference);
         print_words("buffer before", before, room);
         print_words("library's buffer", menu, room);
@@ -453,6 +371,7 @@ int main(int argc, char **argv) {
     make(&binding_buffer, 4 * ROOM + 64);
     make(&next_buffer, 4 * ROOM + 64);
     make(&menu_buffer, 4 * MENU_ROOM + 64);
+    make_run_buffers();
     printf("seed %" PRIu64 ", %" PRIu64 " rounds\n", seed, rounds);
     for (now_round = 0; now_round < rounds; now_round++) {
         random_seed(seed + now_round);
@@ -462,12 +381,14 @@ int main(int argc, char **argv) {
         if (now_round % 50 == 0) round_sizes();
         round_menus((enum taste)(now_round % PLAN_TASTES));
         if (now_round % 200 == 4) round_wide((unsigned)(now_round / 200));
+        round_runs((enum taste)(now_round / 2 % PLAN_TASTES), now_round % 500 == 7 ? 2000 : 40);
+        if (now_round % 200 == 5) round_long_runs((unsigned)(now_round / 200));
     }
     for (unsigned c = 0; c < CALLS; c++) {
         uint64_t sum = 0;
         for (unsigned n = 0; n < 17; n++) sum += met[c][n];
         if (sum == 0) continue;
-        printf("%s: %" PRIu64 " tried, all the same:", names[c], sum);
+        printf("%s: %" PRIu64 " tried, all the same:", call_names[c], sum);
         if (c == TEST || c == TEST_BYTES) printf(" %" PRIu64 " yes, %" PRIu64 " no", yes[c], met[c][0] - yes[c]);
         else if (c == MENU) printf(" %" PRIu64 " found (%" PRIu64 " bindings; %" PRIu64 " menus without any)", met[c][0], bindings_found, empty_menus);
         else printf(" %" PRIu64 " accepted", met[c][0]);
@@ -476,5 +397,5 @@ int main(int argc, char **argv) {
         printf("\n");
     }
     printf("menus also held against all bindings tested one by one: %" PRIu64 "\n", listed_menus);
-    return 0;
+    return print_runs(rounds >= 2000) ? 0 : 1;
 }

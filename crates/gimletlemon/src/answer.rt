@@ -1,11 +1,12 @@
 // Answers told to a C program: the refusal's number is returned, 0 for none, and the other numbers are written for the caller.
 use semantics::Fired;
 use semantics::Listed;
+use semantics::Outcome;
 use semantics::Tested;
 use semantics::Verdict;
 ghost use mathlib.Core.Path.{_≡_};
 ghost use Rattle.semantics.specs.Answer.{checkRefusal, testRefusal, testYes, menuRefusal, menuBindings, menuTries, fireRefusal, fireLength};
-ghost use Rattle.gimletlemon.specs.Told.{told};
+ghost use Rattle.gimletlemon.specs.Told.{told, runRefusal};
 
 // What check answers: the position is written.
 pub fn tell_check(answer: Verdict, position: &mut u64) -> u32
@@ -80,4 +81,16 @@ pub fn tell_fire(answer: Fired, length: &mut u64, position: &mut u64) -> u32
             n
         }
     }
+}
+
+// What run answers: the picks done, the length of the marking in words, and the position, are written.
+pub fn tell_run(answer: Outcome, done: &mut u64, length: &mut u64, position: &mut u64) -> u32
+    ensures { λ r. ⌜ told r (now (position .exit)) ≡ runRefusal answer ⌝ }
+    ensures { λ r. ⌜ now (done .exit) ≡ answer .done ⌝ }
+    ensures { λ r. ⌜ now (length .exit) ≡ answer .length ⌝ }
+{
+    *done = answer.done as u64;
+    *length = answer.length as u64;
+    *position = answer.position as u64;
+    answer.refusal
 }

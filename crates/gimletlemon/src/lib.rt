@@ -10,3 +10,5 @@ pub mod test;
 pub mod menu;
 // Fire.
 pub mod fire;
+// Run.
+pub mod runs;

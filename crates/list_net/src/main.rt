@@ -1,6 +1,6 @@
 // Prints a net image, little-endian words from standard input, word by word: position, word in hexadecimal, and what it is in words, indented by
 // structure. At a refused word it prints the refusal and its reason. The refusal is the one of check, so that "refused 3 17" can be looked up.
-use gimletlemon::bytes::words_of_bytes;
+use word::bytes::words_of_bytes;
 use listing::list::list_words;
 use listing::list::print;
 use text::line::put_bad_input;
