@@ -1,9 +1,9 @@
 // Prints a net image, little-endian words from standard input, word by word: position, word in hexadecimal, and what it is in words, indented by
 // structure. At a refused word it prints the refusal and its reason. The refusal is the one of check, so that "refused 3 17" can be looked up.
-use word::bytes::words_of_bytes;
 use listing::list::list_words;
 use listing::list::print;
 use text::line::put_bad_input;
+use word::bytes::words_of_bytes;
 
 // A length that is not a whole number of words is refused first, as check on bytes refuses it.
 fn list_bytes(bytes: &[u8]) {

@@ -133,17 +133,6 @@ fn width_of(widths: &[usize], w: u32) -> usize {
     0
 }
 
-// Whether a net is refused for its reading at a word, so that no later word is told.
-fn stops(number: u32, position: usize, i: usize) -> bool {
-    if number == 0 {
-        return false;
-    }
-    if number == 5 {
-        return false;
-    }
-    i == position
-}
-
 // Whether a plan is refused at a word.
 fn unfit(number: u32, position: usize, i: usize) -> bool {
     if number == 5 {
@@ -152,16 +141,12 @@ fn unfit(number: u32, position: usize, i: usize) -> bool {
     false
 }
 
-// All words, up to the refused one; a net with an unfit plan is listed whole.
-fn list_until(words: &[u32], number: u32, position: usize) {
+// Words that check takes, a line each; where a plan is refused at one of them, that too. It tells what is due behind them.
+fn list_taken(words: &[u32], number: u32, position: usize) -> State {
     let mut s = first_state();
     let mut widths = [0usize; 64];
     let mut i = 0;
     while i < words.len() {
-        if stops(number, position, i) {
-            print_refused(words, i, s, number);
-            return;
-        }
         let w = words[i];
         note_width(&mut widths[..], s.places, w);
         let width = width_of(&widths[..], w);
@@ -169,8 +154,17 @@ fn list_until(words: &[u32], number: u32, position: usize) {
         s = after(s, w, width);
         i += 1;
     }
-    if stops(number, position, i) {
-        print_refused(words, i, s, number);
+    s
+}
+
+// A net whose plan is refused is listed whole; any other up to the refused word, which no line before it shows.
+fn list_refused(words: &[u32], number: u32, position: usize) {
+    if number == 5 {
+        list_taken(words, number, position);
+    } else {
+        let end = at_most(words.len(), position);
+        let s = list_taken(&words[..end], number, position);
+        print_refused(words, end, s, number);
     }
 }
 
@@ -178,7 +172,9 @@ fn list_until(words: &[u32], number: u32, position: usize) {
 pub fn list_words(words: &[u32], count: usize) {
     let end = at_most(words.len(), count);
     match check(&words[..end]) {
-        Verdict::Accepted => list_until(&words[..end], 0, 0),
-        Verdict::Refused(n, p) => list_until(&words[..end], n, p),
+        Verdict::Accepted => {
+            list_taken(&words[..end], 0, 0);
+        }
+        Verdict::Refused(n, p) => list_refused(&words[..end], n, p),
     }
 }

@@ -9,10 +9,10 @@ use Rattle.listing.proofs.list.list_words.Tie as tie
 checked : tie.Need-slice-aggregate-check
 checked c = let e = (c .before .at-most) .ensures in sym (length-take-le _ _ (omega arith))
 
-accepted : tie.Need-slice-aggregate-list-until
+accepted : tie.Need-slice-aggregate-list-taken
 accepted c = let e = (c .before .before .before .before .before .at-most) .ensures in sym (length-take-le _ _ (omega arith))
 
-refused : tie.Need-slice-aggregate-list-until-2
+refused : tie.Need-slice-aggregate-list-refused
 refused c = let e = (c .before .before .before .before .before .before .at-most) .ensures in sym (length-take-le _ _ (omega arith))
 
 pub list-words-spec : {M : Type 1} → statement M
