@@ -1,5 +1,5 @@
 -- What a C program is told follows from what the calls answer.
--- Rests on Copying, and on semantics/proofs/Prefix.
+-- Rests on word/proofs/Copying and semantics/proofs/Prefix.
 use mathlib.Core.Path.{_≡_, refl, sym, ap, _∙_}
 use mathlib.Core.Logic.{_⊎_, inl, inr}
 use mathlib.Core.Bool.{true, false}
@@ -22,7 +22,7 @@ use Rattle.semantics.specs.Calls.{checkCall, testCall, checkBytesCall, testByte
 use Rattle.accept.specs.Front.{splitInto}
 use Rattle.semantics.proofs.Tests.{either}
 use Rattle.semantics.proofs.Prefix.{check-prefix, test-prefix}
-use Rattle.gimletlemon.proofs.Copying.{words-length}
+use Rattle.word.proofs.Copying.{words-length}
 
 -- ── Answers ──
 

@@ -1,7 +1,5 @@
 // What a C program links: the calls as functions on pointers, lengths and numbers. host/gimletlemon.h declares them.
 
-// Little-endian bytes as words.
-pub mod bytes;
 // Answers as a refusal's number and numbers written for the caller.
 pub mod answer;
 // Check and split.

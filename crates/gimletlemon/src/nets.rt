@@ -1,9 +1,9 @@
 // Check and split for a C program.
 use crate::answer::tell_check;
-use crate::bytes::words_of_bytes;
 use accept::check::check;
 use accept::split::split;
 use semantics::Verdict;
+use word::bytes::words_of_bytes;
 ghost use mathlib.Core.Path.{_≡_};
 ghost use Prim.Native.Nat.{_-_};
 ghost use lib.ListN.{length, drop};

@@ -1,8 +1,8 @@
 // Test for a C program.
 use crate::answer::tell_test;
-use crate::bytes::words_of_bytes;
 use occurrence::test::test;
 use semantics::Tested;
+use word::bytes::words_of_bytes;
 ghost use mathlib.Core.Path.{_≡_};
 ghost use Rattle.semantics.specs.Word.{wordsOfBytes};
 ghost use Rattle.semantics.specs.Answer.{testRefusal, testYes};

@@ -1,4 +1,5 @@
 pub mod Bounded
+pub mod Copying
 pub mod Loads
 pub mod Read
 pub mod Words

@@ -1,9 +1,9 @@
--- `gimletlemon::bytes::words_of_bytes` meets its contract: the loop of `Copying`.
+-- `word::bytes::words_of_bytes` meets its contract: the loop of `Copying`.
 use Prim.Native.Nat.{_-_}
 use borrow.Author.Needs.{needs}
-use Rattle.gimletlemon.proofs.Copying.{Filled, filled-again, filled-end}
-use Rattle.gimletlemon.proofs.bytes.words_of_bytes.Statement.{statement}
-use Rattle.gimletlemon.proofs.bytes.words_of_bytes.Tie as tie
+use Rattle.word.proofs.Copying.{Filled, filled-again, filled-end}
+use Rattle.word.proofs.bytes.words_of_bytes.Statement.{statement}
+use Rattle.word.proofs.bytes.words_of_bytes.Tie as tie
 
 abbrev Inv-loop : tie.InvT-loop
 Inv-loop bytes words₀ n i₀ words i = Filled bytes words₀ n i words
