@@ -2,46 +2,40 @@
 -- changes told from them lead to the counts after the step, so the words that are written are the words of these counts.
 use mathlib.Core.Path.{_≡_, refl, sym, ap, _∙_, subst}
 use mathlib.Core.Logic.{_⊎_, inl, inr}
-use Prim.Native.Nat.{ℕ, zero, suc, _+_, _-_, _≤_, _<_}
+use Prim.Native.Nat.{ℕ, _+_, _≤_, _<_}
 use mathlib.Core.Bool.{Bool, true, false, cond, not, _&&_}
-use mathlib.Core.List.{List, [], _∷_, _++_, map, List·Memᴰ}
+use mathlib.Core.List.{List, [], _∷_, _++_}
 use mathlib.Core.Option.{Option, none, some}
-use borrow.Author.Tests.{leb-true, le-leb, lt-leb, not-true, not-false}
-use native.Mathlib.Omega.{arith}
-use lib.Dec.{leb}
-use lib.IntN.{ℤ}
-use lib.ListN.{length, take, drop}
-use Rattle.semantics.specs.declared.Fired.{Fired}
+use borrow.Author.Tests.{le-leb, lt-leb, not-true, not-false}
+use lib.ListN.{length, drop}
 use Rattle.semantics.specs.declared.Fired.the-variants.{Written, Refused as FireRefused}
-use Rattle.semantics.specs.Refusal.{notEnabled, badOutput, overCount, overRoom, mostCount, mostWords}
+use Rattle.semantics.specs.Refusal.{notEnabled, badOutput, overCount, overRoom, mostWords}
 use Rattle.semantics.specs.Lists.{Every, every}
 use Rattle.semantics.specs.Expression.{houseTable, bound, given}
-use Rattle.semantics.specs.Reading.{read}
-use Rattle.semantics.specs.Net.{Place, Arc, Conjunct, Transition, Net}
-use Rattle.semantics.specs.Marking.{Entry, key, Counts, Proper, countsOf, markingWords}
-use Rattle.semantics.specs.Enabling.{Flow, total, effect, flows, coversAll, isEnabled, fits, withinCounts, Firing, moved, stopped, occurBy, occur}
-use Rattle.semantics.specs.Run.{hasRoom, roomed, fire}
+use Rattle.semantics.specs.Net.{Arc}
+use Rattle.semantics.specs.Marking.{Counts, Proper, countsOf, markingWords}
+use Rattle.semantics.specs.Enabling.{Flow, effect, flows, isEnabled, fits, withinCounts, moved, stopped, occurBy, occur}
+use Rattle.semantics.specs.Run.{roomed, fire}
 use Rattle.semantics.specs.Calls.{firedBy}
-use Rattle.semantics.proofs.Tests.{false-true, either, not-both, and-left, and-right, and-both, Every-at, every-of, every-at}
+use Rattle.semantics.proofs.Tests.{false-true, either, and-right, and-both, Every-at, every-of}
 use Rattle.semantics.proofs.Markings.{step-proper}
-use Rattle.semantics.proofs.Step.{Limited, within-all, all-within, occurs-step}
+use Rattle.semantics.proofs.Step.{Limited, within-all, occurs-step}
 use Rattle.semantics.proofs.Members.{none-some}
 use Rattle.net.specs.declared.index.TransitionIndex.{TransitionIndex}
 use Rattle.net.specs.Skim.{Outline}
 use Rattle.net.specs.Index.{outlined}
-use Rattle.net.specs.Places.{placesAt, PlacesFit}
+use Rattle.net.specs.Places.{PlacesFit}
 use Rattle.marking.proofs.Counted.{marking-counts}
-use Rattle.marking.specs.Marked.{markingRead, Begins}
 use Rattle.occurrence.specs.declared.flow.Flows.{Flows}
-use Rattle.occurrence.specs.Flow.{guardAt, flowsAt}
-use Rattle.occurrence.specs.Answers.{flowsRead, flowsOf, IsFlows, Fitted, IsTaken}
+use Rattle.occurrence.specs.Flow.{flowsAt}
+use Rattle.occurrence.specs.Answers.{flowsRead, flowsOf, Fitted, IsTaken}
 use Rattle.occurrence.proofs.Enabling.{flows-fitted}
-use Rattle.occurrence.proofs.Reading.{inputs-told, outputs-told, guard-told}
+use Rattle.occurrence.proofs.Reading.{inputs-told, outputs-told, enabled-told}
 use Rattle.firing.specs.declared.change.Built.{Built}
-use Rattle.firing.specs.Patch.{Change, changeKey, patched, Told, Untouched, Changing, changesOf, InOrder, Ready}
+use Rattle.firing.specs.Patch.{patched, Changing, changesOf, Ready}
 use Rattle.firing.specs.Fit.{fitsAt, deliveredBy, IsGiven}
 use Rattle.firing.specs.Built.{within, BuiltFrom, IsBuilt}
-use Rattle.firing.specs.Fire.{Fireable, fireEnd, IsFired}
+use Rattle.firing.specs.Fire.{Fireable, fireEnd}
 use Rattle.firing.proofs.Patched.{patched-words, patched-ordered}
 use Rattle.firing.proofs.Building.{untouched-same}
 
@@ -64,11 +58,8 @@ module _ {ws ps : List ℕ} {t : TransitionIndex} {ms begins bs : List ℕ} (q :
   counts = countsOf (q .entries)
 
   enabled-is : {r : Flows} → IsTaken ws ps (outlined t .guard) (outlined t .inputs) ms begins bs r → r .some ≡ isEnabled houseTable (q .transition) counts (q .binding)
-  unfolding isEnabled counts
-  enabled-is i =
-      let h = i .enabled .enabled (q .net .places) (q .placed) (q .entries) (q .end) (q .marked) (q .begun) in
-      let g = ap (guardAt ws bs) (ap (λ (o : Outline). o .guard) (q .outlines)) ∙ guard-told ws bs (q .net .places) (q .at) (q .transition) (q .after) (q .there) (q .many) in
-      h ∙ rw (g, inputs-are, q .values)
+  unfolding counts
+  enabled-is i = enabled-told ws bs (q .net .places) (q .at) (q .transition) (q .after) (q .there) (q .many) ps (q .placed) (ap (λ (o : Outline). o .guard) (q .outlines)) (ap (λ (o : Outline). o .inputs) (q .outlines)) (q .entries) (q .end) (q .marked) (q .begun) (q .binding) (q .values) (i .enabled)
 
   limited : Limited counts
   unfolding counts

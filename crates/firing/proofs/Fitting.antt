@@ -1,37 +1,32 @@
 -- The rules of fitting: component by component, flow by flow, what is still ahead is what was ahead at first.
 use mathlib.Core.Path.{_≡_, refl, sym, ap, _∙_, subst}
-use Prim.Native.Nat.{ℕ, zero, suc, _+_, _-_, _/_, _%_, _≤_, _<_}
-use mathlib.Core.Bool.{Bool, true, false, not, _&&_, _||_}
-use mathlib.Core.List.{List, [], _∷_, map}
-use mathlib.Core.Option.{Option, none, some}
-use borrow.Author.Needs.{needs}
+use Prim.Native.Nat.{ℕ, zero, suc, _+_, _-_, _≤_, _<_}
+use mathlib.Core.Bool.{Bool, true, false, not, _&&_}
+use mathlib.Core.List.{List, [], _∷_}
+use mathlib.Core.Option.{none, some}
 use borrow.Author.Tests.{eq-eqb, ne-eqb, not-true, not-false}
 use native.Mathlib.Numerals.{add-one}
 use native.Mathlib.Omega.{arith}
-use lib.Dec.{eqb}
 use lib.IntN.{ℤ, pos}
-use lib.Signed.{leZ}
 use lib.ListN.{length, getD, take, drop, drop-of-length-le}
 use lib.Seq.{getD-take, drop-cons, length-take-le}
 use Rattle.semantics.specs.Lists.{Every, every}
-use Rattle.semantics.specs.Word.{signed, Range, within}
-use Rattle.semantics.specs.Expression.{given}
-use Rattle.semantics.specs.Net.{rangesAt}
+use Rattle.semantics.specs.Word.{within}
 use Rattle.semantics.specs.Order.{inRanges}
 use Rattle.semantics.specs.Enabling as enabling
 use Rattle.semantics.proofs.Tests.{false-true}
 use Rattle.word.specs.Fields.{rangeWord}
 use Rattle.net.specs.declared.index.TransitionIndex.{TransitionIndex}
 use Rattle.net.specs.Index.{outlined}
-use Rattle.net.specs.Places.{rangesFrom, widthAt, placesAt, PlacesFit}
-use Rattle.net.proofs.Placed.{ranges-at, fits-at}
+use Rattle.net.specs.Places.{rangesFrom, PlacesFit}
+use Rattle.net.proofs.Placed.{ranges-at}
 use Rattle.occurrence.specs.declared.flow.Flow.{Flow}
 use Rattle.occurrence.specs.declared.flow.Flows.{Flows}
 use Rattle.occurrence.specs.Flow.{flowsAt}
 use Rattle.occurrence.specs.Answers.{flowOf, flowsOf, FlowFits, IsFlows, FlowBounds, FlowsFit}
 use Rattle.occurrence.proofs.Covering.{colour-length, flows-length, flow-next}
-use Rattle.occurrence.proofs.Enabling.{flow-bounded, all-bounded, flows-none, flows-some}
-use Rattle.firing.specs.Fit.{fitsAt, FlowsAmong, deliveredBy, IsGiven}
+use Rattle.occurrence.proofs.Enabling.{all-bounded, flows-none, flows-some}
+use Rattle.firing.specs.Fit.{fitsAt, FlowsAmong, IsGiven}
 
 -- ── A colour ──
 

@@ -1,6 +1,7 @@
 -- What is told from positions is what semantics says of the transition: each arc and conjunct that was read stands at its position, so it is
 -- read there again. Rests on net/proofs/Located.
-use mathlib.Core.Path.{_≡_, refl, fun-ext}
+use mathlib.Core.Path.{_≡_, refl, fun-ext, _∙_}
+use mathlib.Core.Bool.{Bool}
 use Prim.Native.Nat.{ℕ, _<_}
 use mathlib.Core.List.{List, [], _∷_, map}
 use lib.IntN.{ℤ}
@@ -12,12 +13,15 @@ use Rattle.semantics.specs.Expression.{houseTable, bound}
 use Rattle.semantics.specs.Reading.{read}
 use Rattle.semantics.specs.Net.{Place, Arc, Conjunct, Transition}
 use Rattle.semantics.specs.ReadNet.{readArc, readConjunct, readTransition}
-use Rattle.semantics.specs.Enabling.{holds, flows}
+use Rattle.semantics.specs.Marking.{Entry, countsOf}
+use Rattle.semantics.specs.Enabling.{holds, flows, isEnabled}
 use Rattle.expression.specs.Evaluate.{lent}
 use Rattle.expression.proofs.Laws.{lent-bound}
 use Rattle.net.specs.Places.{placesAt}
 use Rattle.net.proofs.Located.{At, transition-parts}
+use Rattle.marking.specs.Marked.{markingRead, Begins}
 use Rattle.occurrence.specs.Flow.{guardAt, flowsAt}
+use Rattle.occurrence.specs.Answers.{IsEnabledAt}
 
 -- ── Arcs and conjuncts at their positions ──
 
@@ -48,6 +52,11 @@ module _ (ws bs : List ℕ) (places : List Place) (at : ℕ) (t : Transition) (n
 
   pub guard-told : guardAt ws bs (map (λ (c : Conjunct). c .position) (t .guard)) ≡ every (holds houseTable (lent bs)) (t .guard)
   guard-told = conjuncts-told ws bs (length (t .variables)) l (t .guard) (transition-parts ws places at t next e .guard)
+
+  -- the test of enabling at the positions of the transition's conjuncts and input arcs, under words that are a binding, is that of semantics
+  pub enabled-told : (ps : List ℕ) → places ≡ placesAt ws ps → {conjuncts inputs ms begins : List ℕ} → conjuncts ≡ map (λ (c : Conjunct). c .position) (t .guard) → inputs ≡ map (λ (a : Arc). a .position) (t .inputs) → (es : List Entry) (end : ℕ) → markingRead places ms ≡ read es end → Begins es begins → (b : List ℤ) → lent bs ≡ bound b → {r : Bool} → IsEnabledAt ws ps conjuncts inputs ms begins bs r → r ≡ isEnabled houseTable t (countsOf es) b
+  unfolding isEnabled
+  enabled-told ps p g i es end m k b v f = f .enabled places p es end m k ∙ rw (g, i, guard-told, inputs-told ps p, v)
 
 -- ── Bindings ──
 

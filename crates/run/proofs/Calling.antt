@@ -1,18 +1,17 @@
 -- The rules of the call: a start that is refused is the answer; otherwise the buffer begins with the marking where the run ended, and the rest is cleared.
-use mathlib.Core.Path.{_≡_, refl, sym, ap, _∙_, subst}
+use mathlib.Core.Path.{_≡_, sym, ap, _∙_, subst}
 use mathlib.Core.List.{List, [], _++_, append-nil}
 use Prim.Native.Nat.{ℕ, _-_, min, _≤_}
 use native.Mathlib.Omega.{arith}
 use lib.ListN.{length, take, drop, replicate, length-drop}
 use lib.Seq.{take-all, drop-length}
-use Rattle.semantics.specs.declared.Outcome.{Outcome}
 use Rattle.semantics.specs.Reading.{Reading, read}
 use Rattle.semantics.specs.Expression.{houseTable}
 use Rattle.semantics.specs.Net.{Net}
 use Rattle.semantics.specs.Plan.{acceptNet}
-use Rattle.semantics.specs.Marking.{Entry, Counts, countsOf, markingWords}
+use Rattle.semantics.specs.Marking.{Entry, countsOf}
 use Rattle.semantics.specs.Run.{End, plainRun}
-use Rattle.semantics.specs.Calls.{limits, RunEnd, ranTo, ranFrom, runCall}
+use Rattle.semantics.specs.Calls.{limits, ranTo, ranFrom, runCall}
 use Rattle.expression.specs.declared.read.Skipped.the-variants.{Next, Refused}
 use Rattle.net.specs.declared.index.NetIndex.{NetIndex}
 use Rattle.marking.specs.Marked.{markingRead}

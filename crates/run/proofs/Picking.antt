@@ -4,7 +4,7 @@ use mathlib.Core.Path.{_≡_, refl, sym, ap, _∙_, subst}
 use mathlib.Core.List.{List, [], _∷_, _++_, map, flatMap, append-assoc, List·Memᴰ}
 use mathlib.Core.Bool.{true}
 use mathlib.Core.Option.{Option, none, some}
-use Prim.Native.Nat.{ℕ, zero, suc, _+_, _*_, _/_, _%_, min, _≤_, _<_}
+use Prim.Native.Nat.{ℕ, zero, suc, _+_, _*_, _%_, min, _≤_, _<_}
 use native.Mathlib.Omega.{arith}
 use native.Mathlib.Nat.{suc-mul, zero-mul}
 use lib.IntN.{ℤ}
@@ -15,27 +15,26 @@ use Rattle.semantics.specs.declared.Listed.{Listed}
 use Rattle.semantics.specs.declared.Listed.the-variants.{Found, Refused as MenuRefused}
 use Rattle.semantics.specs.Refusal.{noSuchIndex}
 use Rattle.semantics.specs.Lists.{Every}
-use Rattle.semantics.specs.Word.{Range, bits, valueWord}
-use Rattle.semantics.specs.Expression.{houseTable, bound}
-use Rattle.semantics.specs.Reading.{Reading, read, refused}
-use Rattle.semantics.specs.Net.{Arc, Conjunct, Element, Transition, Net}
+use Rattle.semantics.specs.Word.{valueWord}
+use Rattle.semantics.specs.Expression.{houseTable}
+use Rattle.semantics.specs.Reading.{read}
+use Rattle.semantics.specs.Net.{Arc, Transition, Net}
 use Rattle.semantics.specs.ReadNet.{readTransition}
 use Rattle.semantics.specs.Plan.{acceptNet}
 use Rattle.semantics.specs.Order.{inRanges}
-use Rattle.semantics.specs.Marking.{Entry, Counts, pickTransition, pickIndex, countsOf, markingWords}
-use Rattle.semantics.specs.Enabling.{Firing, moved, stopped}
-use Rattle.semantics.specs.Run.{menu, Offer, offered, withheld, offer, fire, Limits, fireAt, pickFrom, pickOf, pick}
+use Rattle.semantics.specs.Marking.{pickTransition, pickIndex, countsOf}
+use Rattle.semantics.specs.Enabling.{Firing}
+use Rattle.semantics.specs.Run.{menu, Offer, offered, withheld, offer, fireAt, pickFrom, pick}
 use Rattle.semantics.specs.Calls.{Situation, MenuEnd, listedBy, limits}
 use Rattle.semantics.proofs.Tests.{false-true, Every-of}
-use Rattle.semantics.proofs.Members.{none-some, at-length, length-at, at-member}
+use Rattle.semantics.proofs.Members.{none-some, length-at, at-member}
 use Rattle.semantics.proofs.Accepted.{SoundArc, SoundTransition, transition-sound, accepted-read, accepted-planned}
-use Rattle.semantics.proofs.Offer.{Made, offer-made}
+use Rattle.semantics.proofs.Offer.{offer-made}
 use Rattle.semantics.proofs.Menu.{menu-members}
-use Rattle.expression.specs.Evaluate.{lent}
 use Rattle.net.specs.declared.index.TransitionIndex.{TransitionIndex}
 use Rattle.net.specs.Skim.{Outline, outline, skimTransition}
 use Rattle.net.specs.Index.{transitionRead, outlined}
-use Rattle.net.specs.Places.{rangesFrom, placesAt, PlacesFit}
+use Rattle.net.specs.Places.{placesAt}
 use Rattle.net.proofs.Located.{At, net-transitions}
 use Rattle.net.proofs.Placed.{index-outline, variables-placed}
 use Rattle.marking.specs.declared.index.MarkingIndex.{MarkingIndex}
@@ -45,11 +44,10 @@ use Rattle.occurrence.proofs.Reading.{binding-lent}
 use Rattle.firing.specs.Fire.{Fireable}
 use Rattle.rows.proofs.Rows.{row-room}
 use Rattle.tries.specs.World.{World}
-use Rattle.search.specs.Scene.{netOf, transitionOf, countsIn, sceneOf}
+use Rattle.search.specs.Scene.{netOf, countsIn, sceneOf}
 use Rattle.search.specs.Search.{menuEnd}
 use Rattle.search.specs.Menu.{Listable, IsListed}
 use Rattle.run.specs.declared.pick.Picked.{Picked}
-use Rattle.run.specs.Start.{NetKnown}
 use Rattle.run.specs.Pick.{Leaves, row, FiresRow, IsFiredAt, Pickable, IsPicked}
 
 -- ── What was listed ──

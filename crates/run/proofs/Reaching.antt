@@ -10,12 +10,12 @@ use native.Mathlib.Omega.{arith}
 use lib.ListN.{length, replicate}
 use Rattle.semantics.specs.declared.Outcome.{Outcome}
 use Rattle.semantics.specs.Refusal.{noTransition, badPick}
-use Rattle.semantics.specs.Reading.{Reading, read, refused}
+use Rattle.semantics.specs.Reading.{read, refused}
 use Rattle.semantics.specs.Expression.{houseTable}
 use Rattle.semantics.specs.Net.{Net}
 use Rattle.semantics.specs.Plan.{acceptNet}
 use Rattle.semantics.specs.Marking.{Entry, readMarking, firstUnknown, firstMalformed, countsOf}
-use Rattle.semantics.specs.Calls.{zeroed, Start, markingIn, start, limits, RunEnd, ranFrom, runCall}
+use Rattle.semantics.specs.Calls.{markingIn, start, limits, RunEnd, ranFrom, runCall}
 use Rattle.semantics.specs.Reach.{OccurrenceSequence, Ends}
 use Rattle.semantics.proofs.Reach.{reach}
 use Rattle.run.specs.Run.{runEnd}

@@ -1,22 +1,22 @@
 -- The rules of a run: the marking at the front of the buffer is where the plain run of the picks so far ended, and by the law of two lists of picks,
 -- one after the other, the whole run goes on from there.
 use mathlib.Core.Path.{_≡_, refl, sym, ap, _∙_, subst}
-use mathlib.Core.Bool.{Bool, true, false, cond, not, _&&_}
+use mathlib.Core.Bool.{Bool, true, false, not, _&&_}
 use mathlib.Core.Logic.{_⊎_, inl, inr}
 use mathlib.Core.List.{List, [], _∷_, _++_}
-use mathlib.Core.Option.{none, some}
-use Prim.Native.Nat.{ℕ, zero, suc, _+_, min, _≤_, _<_}
+use mathlib.Core.Option.{none}
+use Prim.Native.Nat.{ℕ, zero, suc, _+_, _≤_, _<_}
 use native.Mathlib.Omega.{arith}
-use borrow.Author.Tests.{leb-true, leb-false}
+use borrow.Author.Tests.{leb-false}
 use lib.Dec.{leb}
 use lib.ListN.{length, getD, take, drop}
 use lib.Seq.{length-take-le, take-all, take-suc, split-at}
 use Rattle.semantics.specs.Lists.{Every}
-use Rattle.semantics.specs.Reading.{Reading, read, refused}
+use Rattle.semantics.specs.Reading.{Reading, read}
 use Rattle.semantics.specs.Expression.{houseTable}
 use Rattle.semantics.specs.Net.{Net}
 use Rattle.semantics.specs.Plan.{acceptNet}
-use Rattle.semantics.specs.Marking.{Entry, Counts, Proper, readMarking, countsOf, markingWords, isPick, pickTransition, firstThat, firstUnknown, firstMalformed}
+use Rattle.semantics.specs.Marking.{Entry, Counts, readMarking, countsOf, markingWords, isPick, pickTransition, firstThat}
 use Rattle.semantics.specs.Enabling.{Firing, moved, stopped}
 use Rattle.semantics.specs.Run.{Limits, pick, End, plainRun}
 use Rattle.semantics.specs.Calls.{limits}
@@ -29,7 +29,6 @@ use Rattle.semantics.proofs.Reach.{Marks, pick-marks}
 use Rattle.marking.specs.Marked.{markingRead}
 use Rattle.search.specs.Scene.{netOf, countsIn}
 use Rattle.run.specs.declared.pick.Picked.{Picked}
-use Rattle.run.specs.Start.{NetKnown}
 use Rattle.run.specs.Pick.{Leaves, Pickable, IsPicked}
 use Rattle.run.specs.Run.{Runnable, HasRun}
 

@@ -1,29 +1,28 @@
 -- The rules of a start: net, then the transitions of the picks, then the marking, then the picks. Each is told by its index or by the first pick that
 -- is at fault.
-use mathlib.Core.Path.{_≡_, refl, sym, ap, _∙_, subst}
-use mathlib.Core.Bool.{Bool, true, false, cond}
-use mathlib.Core.List.{List, [], _∷_, map}
-use mathlib.Core.Option.{Option, none, some}
-use Prim.Native.Nat.{ℕ, min, _≤_, _<_}
+use mathlib.Core.Path.{_≡_, refl, sym, ap, _∙_}
+use mathlib.Core.Bool.{true, false}
+use mathlib.Core.List.{List, map}
+use mathlib.Core.Option.{none, some}
+use Prim.Native.Nat.{ℕ, min, _≤_}
 use native.Mathlib.Omega.{arith}
-use borrow.Author.Tests.{le-leb, lt-leb, leb-true, leb-false}
+use borrow.Author.Tests.{leb-true, leb-false}
 use mathlib.Core.Logic.{_⊎_, inl, inr}
 use lib.Dec.{leb}
 use lib.ListN.{length, take, length-map, length-take}
 use Rattle.semantics.specs.Refusal.{noTransition, badMarking, badPick}
-use Rattle.semantics.specs.Reading.{Reading, read, refused, then}
+use Rattle.semantics.specs.Reading.{Reading, read, refused}
 use Rattle.semantics.specs.Net.{Transition, Net}
 use Rattle.semantics.specs.ReadNet.{readNet}
 use Rattle.semantics.specs.Plan.{acceptNet}
-use Rattle.semantics.specs.Marking.{Entry, firstUnknown, firstMalformed, readMarking, countsOf}
-use Rattle.semantics.specs.Calls.{Start, markingIn, refusedAt, start}
+use Rattle.semantics.specs.Marking.{Entry, firstUnknown, firstMalformed, readMarking}
+use Rattle.semantics.specs.Calls.{Start, markingIn, start}
 use Rattle.semantics.proofs.Accepted.{accepted-read}
 use Rattle.semantics.proofs.Tests.{false-true, either}
-use Rattle.expression.specs.declared.read.Skipped.{Skipped}
 use Rattle.expression.specs.declared.read.Skipped.the-variants.{Next, Refused}
 use Rattle.expression.specs.Skip.{forget, skipped}
 use Rattle.net.specs.declared.index.NetIndex.{NetIndex}
-use Rattle.net.specs.Skim.{changed, netOutline, width, skimNet}
+use Rattle.net.specs.Skim.{changed, netOutline, skimNet}
 use Rattle.net.specs.Index.{netRead}
 use Rattle.net.specs.Places.{placesAt, PlacesFit}
 use Rattle.net.proofs.Skimming.{skim-net}
@@ -32,10 +31,10 @@ use Rattle.accept.proofs.Checking.{take-least, index-read, index-refused}
 use Rattle.marking.specs.declared.index.MarkingIndex.{MarkingIndex}
 use Rattle.marking.specs.declared.pick.FirstPick.{FirstPick}
 use Rattle.marking.specs.declared.pick.FirstPick.the-variants.{At, Nothing}
-use Rattle.marking.specs.Marked.{markingRead, IsMarking, IsMarkingIn}
+use Rattle.marking.specs.Marked.{markingRead, IsMarkingIn}
 use Rattle.marking.specs.Picks.{firstPick}
 use Rattle.occurrence.proofs.Situations.{passed-refused, passed-read}
-use Rattle.run.specs.Start.{NetKnown, Started, IsStart}
+use Rattle.run.specs.Start.{IsStart}
 
 next-refused : {X : Type 0} {next n p : ℕ} → Next next ≡ Refused n p → X
 next-refused e = false-true (cc)

@@ -8,9 +8,9 @@ use Rattle.semantics.specs.Reading.{read}
 use Rattle.semantics.specs.Expression.{houseTable}
 use Rattle.semantics.specs.Net.{Net}
 use Rattle.semantics.specs.Plan.{acceptNet}
-use Rattle.semantics.specs.Marking.{Entry, Counts, pickTransition, countsOf, markingWords}
+use Rattle.semantics.specs.Marking.{Entry, pickTransition, countsOf, markingWords}
 use Rattle.semantics.specs.Enabling.{Firing, moved, stopped}
-use Rattle.semantics.specs.Run.{fire, Limits, pick}
+use Rattle.semantics.specs.Run.{fire, pick}
 use Rattle.semantics.specs.Calls.{limits}
 use Rattle.net.specs.declared.index.TransitionIndex.{TransitionIndex}
 use Rattle.net.specs.Places.{PlacesFit}

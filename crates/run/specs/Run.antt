@@ -10,8 +10,8 @@ use Rattle.semantics.specs.Expression.{houseTable}
 use Rattle.semantics.specs.Lists.{Every}
 use Rattle.semantics.specs.Net.{Net}
 use Rattle.semantics.specs.Plan.{acceptNet}
-use Rattle.semantics.specs.Marking.{Entry, Counts, pickTransition, countsOf, markingWords}
-use Rattle.semantics.specs.Run.{Limits, End, plainRun}
+use Rattle.semantics.specs.Marking.{Entry, pickTransition, markingWords}
+use Rattle.semantics.specs.Run.{End, plainRun}
 use Rattle.semantics.specs.Calls.{limits, RunEnd}
 use Rattle.marking.specs.Marked.{markingRead}
 use Rattle.search.specs.Scene.{netOf, countsIn}

@@ -5,7 +5,7 @@ use mathlib.Core.List.{List, map}
 use mathlib.Core.Option.{none}
 use Prim.Native.Nat.{ℕ, min, _≤_}
 use lib.ListN.{length, take}
-use Rattle.semantics.specs.Reading.{Reading, read, refused}
+use Rattle.semantics.specs.Reading.{read, refused}
 use Rattle.semantics.specs.Net.{Transition, Net}
 use Rattle.semantics.specs.Plan.{acceptNet}
 use Rattle.semantics.specs.Marking.{Entry, firstUnknown, firstMalformed, countsOf}

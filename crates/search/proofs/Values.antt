@@ -1,30 +1,27 @@
 -- A full binding in slots: the words are the VALUE words of its values, and the enabling test told from positions is that of semantics.
-use mathlib.Core.Path.{_≡_, refl, sym, ap, _∙_, subst, fun-ext}
+use mathlib.Core.Path.{_≡_, refl, ap, _∙_, fun-ext}
 use mathlib.Core.Logic.{_⊎_, inl, inr}
 use mathlib.Core.Bool.{Bool, true, false, _&&_}
 use mathlib.Core.List.{List, [], _∷_, map}
-use mathlib.Core.Option.{Option, none, some}
-use Prim.Native.Nat.{ℕ, zero, suc, _+_, _*_, _/_, _%_, _^_, _≤_, _<_}
+use mathlib.Core.Option.{some}
+use Prim.Native.Nat.{ℕ, zero, suc, _%_, _^_}
 use native.Mathlib.Omega.{arith}
 use borrow.Author.Tests.{eqb-true, ltb-true}
-use lib.Dec.{eqb, ltb}
+use lib.Dec.{eqb}
 use lib.IntN.{ℤ}
-use lib.ListN.{length, getD, getElem?, take, length-map}
+use lib.ListN.{length, take}
 use Rattle.semantics.specs.Lists.{Every}
-use Rattle.semantics.specs.Word.{kind, payload, only, signed, modulo, valueWord}
-use Rattle.semantics.specs.Expression.{given, houseTable, bound}
-use Rattle.semantics.specs.Net.{Arc, Conjunct}
-use Rattle.semantics.specs.Enabling.{isEnabled, coversAll}
-use Rattle.semantics.specs.Tries.{Partial, partly, bindingOf}
-use Rattle.semantics.specs.Marking.{countsOf}
+use Rattle.semantics.specs.Word.{kind, payload, only, signed, valueWord}
+use Rattle.semantics.specs.Expression.{houseTable, bound}
+use Rattle.semantics.specs.Enabling.{isEnabled}
+use Rattle.semantics.specs.Tries.{partly}
 use Rattle.semantics.specs.Calls.{Situation}
 use Rattle.semantics.proofs.Tests.{either, and-left, and-right}
 use Rattle.semantics.proofs.Members.{none-some}
 use Rattle.semantics.proofs.Words.{value-again}
 use Rattle.expression.specs.Evaluate.{valueOf, lent}
-use Rattle.occurrence.specs.Flow.{guardAt, flowsAt}
 use Rattle.occurrence.specs.Answers.{IsEnabledAt}
-use Rattle.occurrence.proofs.Reading.{inputs-told, guard-told}
+use Rattle.occurrence.proofs.Reading.{enabled-told}
 use Rattle.rows.specs.Rows.{valuesOfWords, IsValue}
 use Rattle.tries.specs.Partial.{partialOf}
 use Rattle.tries.specs.World.{World}
@@ -68,13 +65,5 @@ pub full-lent : (v : ℕ) (b : List ℕ) (zs : List ℤ) → partialOf v b ≡ m
 full-lent v b zs e = slots-lent v b ∙ ap partly e ∙ fun-ext (full-at zs)
 
 module _ {ws ps : List ℕ} {position v : ℕ} {inputs conjuncts elements ms begins : List ℕ} {s : Situation} (W : World ws ps position v inputs conjuncts elements ms begins s) (b : List ℕ) (zs : List ℤ) (e : partialOf v b ≡ map some zs) (l : length (take v b) ≡ v) where
-  pub enabled-told : (r : Bool) → IsEnabledAt ws ps conjuncts inputs ms begins (take v b) r → r ≡ isEnabled houseTable (s .transition) (s .counts) zs
-  unfolding isEnabled
-  enabled-told r f =
-      let h = f .enabled (s .net .places) (W .placed) (W .entries) (W .end) (W .marked) (W .begun) in
-      let i = inputs-told ws (take v b) (s .net .places) position (s .transition) (W .after) (W .there) (l ∙ W .many) ps (W .placed) in
-      let g = guard-told ws (take v b) (s .net .places) position (s .transition) (W .after) (W .there) (l ∙ W .many) in
-      h
-      ∙ ap (λ (k : List ℕ). guardAt ws (take v b) k && coversAll (countsOf (W .entries)) (flowsAt ws ps (take v b) inputs)) (W .guards)
-      ∙ ap (λ (k : List ℕ). guardAt ws (take v b) (map (λ (c : Conjunct). c .position) (s .transition .guard)) && coversAll (countsOf (W .entries)) (flowsAt ws ps (take v b) k)) (W .arcs)
-      ∙ rw (i, g, full-lent v b zs e, ← W .counted)
+  pub enabled-full : (r : Bool) → IsEnabledAt ws ps conjuncts inputs ms begins (take v b) r → r ≡ isEnabled houseTable (s .transition) (s .counts) zs
+  enabled-full r f = rw (W .counted) (enabled-told ws (take v b) (s .net .places) position (s .transition) (W .after) (W .there) (l ∙ W .many) ps (W .placed) (W .guards) (W .arcs) (W .entries) (W .end) (W .marked) (W .begun) zs (full-lent v b zs e) f)

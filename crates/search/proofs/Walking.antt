@@ -32,7 +32,7 @@ use Rattle.search.specs.declared.progress.Progress.{Progress}
 use Rattle.search.specs.Search.{costFrom, rowsFrom, Held, Unspent, Ended, IsLeaf}
 use Rattle.search.proofs.Trying.{rowsOver}
 use Rattle.search.proofs.Worlds.{next-element, as-many}
-use Rattle.search.proofs.Values.{slots-values, enabled-told}
+use Rattle.search.proofs.Values.{slots-values, enabled-full}
 use Rattle.search.proofs.Steps.{cost-step, rows-step, cost-leaf, rows-leaf, at-number}
 
 -- the same, of costs and rows that are equal
@@ -60,7 +60,7 @@ module _ {ws ps : List ℕ} {position v : ℕ} {inputs conjuncts elements ms beg
         let g : valuesOfWords (take v b) ≡ zs = slots-values (take v b) zs (full .1) .0 in
         ended-same (ap (λ (es : List Element). costFrom s es (partialOf v b)) none-left ∙ cost-leaf s (partialOf v b))
         (ap (λ (es : List Element). rowsFrom s es (partialOf v b)) none-left ∙ rows-leaf s (partialOf v b) ∙ ap (λ (ys : List ℤ). consIf (isEnabled houseTable (s .transition) (s .counts) ys) ys []) f ∙ ap (λ (ys : List ℤ). consIf (isEnabled houseTable (s .transition) (s .counts) zs) ys []) (sym g))
-        (i .ended budget u (isEnabled houseTable (s .transition) (s .counts) zs) (enabled-told W b zs (full .1) l))
+        (i .ended budget u (isEnabled houseTable (s .transition) (s .counts) zs) (enabled-full W b zs (full .1) l))
 
   -- ── At an element ──
 

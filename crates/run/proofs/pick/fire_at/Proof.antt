@@ -1,8 +1,8 @@
 -- `run::pick::fire_at` meets its contract: each return is a rule of `Firing`.
-use mathlib.Core.Path.{_≡_, sym, _∙_}
+use mathlib.Core.Path.{sym}
 use native.Mathlib.Omega.{arith}
 use borrow.Author.Needs.{needs}
-use lib.ListN.{length, take, length-take}
+use lib.ListN.{length}
 use lib.Seq.{length-take-le}
 use Rattle.run.proofs.Firing.{fired-refused, written-fits, copy-fits, fired-written}
 use Rattle.run.proofs.pick.fire_at.Statement.{statement}

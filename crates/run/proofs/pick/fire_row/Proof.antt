@@ -1,5 +1,4 @@
 -- `run::pick::fire_row` meets its contract: the part of the menu that is fired is the row.
-use native.Mathlib.Omega.{arith}
 use borrow.Author.Needs.{needs}
 use Rattle.run.proofs.Firing.{row-within, row-fires, row-fired}
 use Rattle.run.proofs.pick.fire_row.Statement.{statement}

@@ -1,8 +1,7 @@
 -- `run::pick::pick_once` meets its contract: each return is a rule of `Picking`.
-use mathlib.Core.Path.{_≡_, sym, _∙_}
-use native.Mathlib.Omega.{arith}
+use mathlib.Core.Path.{sym, _∙_}
 use borrow.Author.Needs.{needs}
-use lib.ListN.{length, length-map}
+use lib.ListN.{length-map}
 use lib.Seq.{length-take-le}
 use Rattle.run.proofs.Picking.{among, pick-listable, pick-withheld, pick-past, pick-fires, pick-fired}
 use Rattle.run.proofs.pick.pick_once.Statement.{statement}

@@ -1,7 +1,6 @@
 -- `run::run::fire_picks` meets its contract: the loop keeps what is so of the run so far, and each way out is a rule of `Running`.
-use mathlib.Core.Path.{_≡_, _∙_}
+use mathlib.Core.Path.{_∙_}
 use Prim.Native.Nat.{_-_}
-use native.Mathlib.Omega.{arith}
 use borrow.Author.Needs.{needs}
 use lib.ListN.{length}
 use Rattle.run.proofs.Running.{Sofar, sofar-first, sofar-ended, sofar-pickable, sofar-refused, sofar-fired}
