@@ -1,0 +1,4 @@
+pub mod Bindings
+pub mod Cut
+pub mod Menus
+pub mod Parts
