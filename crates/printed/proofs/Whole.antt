@@ -1,6 +1,7 @@
--- The parts one after the other are the whole text, bytes past 65,537 change nothing, and a buffer of 24,640 bytes holds every part.
+-- The parts one after the other are the whole text, bytes past 65,537 change nothing, a buffer of 24,640 bytes holds every part, and there are at
+-- most 64 parts.
 -- The idea: `texts` follows `printed` case by case. A value takes at most five bytes and one that parts it from the next, a menu has at most
--- 4,096 values, and a transition without variables has at most one binding. Rests on Bindings and specs/Texts.
+-- 4,096 values, and a transition without variables has at most one binding. Rests on Bindings, Parts and specs/Texts.
 use mathlib.Core.Path.{_≡_, refl, sym, ap, _∙_, subst}
 use mathlib.Core.Logic.{_⊎_, inl, inr}
 use mathlib.Core.Bool.{Bool, true, false, cond, _&&_}
@@ -33,6 +34,7 @@ use Rattle.semantics.proofs.Offer.{offer-made}
 use Rattle.text.proofs.Digits.{tenth}
 use Rattle.printed.specs.Texts.{menuTexts, markingTexts, netTexts, texts, parts, partText, firstParts}
 use Rattle.printed.proofs.Bindings.{Fit, menu-fits}
+use Rattle.printed.proofs.Parts.{menus-length}
 
 -- ── The whole text ──
 
@@ -258,3 +260,24 @@ part-uncut bytes i b h =
     ap (λ (k : ℕ). take k (sets b 0 (partText bytes i))) m
     ∙ ap (take (length (partText bytes i))) (sets-eq (partText bytes i) b 0 (omega arith))
     ∙ take-at (partText bytes i) (drop (0 + length (partText bytes i)) b) (length (partText bytes i)) refl
+
+-- ── How many parts ──
+
+marking-few : (net : Net) → length (net .transitions) ≤ 64 → (x : Reading (List Entry)) → length (markingTexts net x) ≤ 64
+marking-few net h (read es next) = let l = menus-length net (countsOf es) 0 (net .transitions) in omega arith
+marking-few net h (refused n p) = omega arith
+
+net-few : (ws : List ℕ) (x : Reading Net) → acceptFront ws ≡ x → length (netTexts ws x) ≤ 64
+net-few ws (read net next) e = marking-few net (front-sound ws net next e .few-transitions) (readMarking net (drop next ws))
+net-few ws (refused n p) e = omega arith
+
+cond-few : (t : Bool) (xs : List (List ℕ)) (y : List ℕ) → length xs ≤ 64 → length (cond t xs (y ∷ [])) ≤ 64
+cond-few true xs y h = h
+cond-few false xs y h = omega arith
+
+pub parts-few : (bytes : List ℕ) → parts bytes ≤ 64
+unfolding texts
+parts-few bytes =
+    cond-few (leb (length bytes) 65536) _ _
+    (cond-few (wholeWords bytes) _ _
+    (net-few (wordsOfBytes bytes) (acceptFront (wordsOfBytes bytes)) refl))
