@@ -253,13 +253,15 @@ pub part-short : (bytes : List ℕ) (i : ℕ) → length (partText bytes i) ≤ 
 part-short bytes i = short-at (texts bytes) i (texts-short bytes)
 
 -- what print_part writes to a buffer of at least 24,640 bytes is the whole part
-pub part-uncut : (bytes : List ℕ) (i : ℕ) (b : List ℕ) → 24640 ≤ length b → take (min (length (partText bytes i)) (length b)) (sets b 0 (partText bytes i)) ≡ partText bytes i
-part-uncut bytes i b h =
+pub part-uncut : (bytes : List ℕ) (i : ℕ) (b : List ℕ) {c : List ℕ} {written : ℕ} → 24640 ≤ length b → c ≡ sets b 0 (partText bytes i) → written ≡ min (length (partText bytes i)) (length b) → (take written c ≡ partText bytes i) × (written ≤ 24640)
+part-uncut bytes i b {c} {written} h e w =
     let s = part-short bytes i in
-    let m : min (length (partText bytes i)) (length b) ≡ length (partText bytes i) = omega arith in
-    ap (λ (k : ℕ). take k (sets b 0 (partText bytes i))) m
-    ∙ ap (take (length (partText bytes i))) (sets-eq (partText bytes i) b 0 (omega arith))
-    ∙ take-at (partText bytes i) (drop (0 + length (partText bytes i)) b) (length (partText bytes i)) refl
+    let m : written ≡ length (partText bytes i) = omega arith in (
+      ap (λ (k : ℕ). take k c) m
+          ∙ ap (take (length (partText bytes i))) (e ∙ sets-eq (partText bytes i) b 0 (omega arith))
+          ∙ take-at (partText bytes i) (drop (0 + length (partText bytes i)) b) (length (partText bytes i)) refl,
+      omega arith,
+    )
 
 -- ── How many parts ──
 

@@ -9,7 +9,7 @@ ghost use mathlib.Core.Path.{_≡_};
 ghost use mathlib.Core.List.{_∷_, []};
 ghost use Prim.Native.Nat.{suc, min, _≤_};
 ghost use lib.Dec.{ltb};
-ghost use lib.ListN.{length};
+ghost use lib.ListN.{length, take};
 ghost use lib.Seq.{sets};
 ghost use Rattle.semantics.specs.Plan.{acceptFront};
 ghost use Rattle.semantics.specs.Print.{badInput};
@@ -95,4 +95,14 @@ pub fn print_part(bytes: &[u8], i: usize, out: &mut [u8]) -> Part
     let mut words = [0u32; 16384];
     let n = words_of_bytes(bytes, &mut words);
     words_part(out, i, &words[..n])
+}
+
+// The same in a buffer that holds every part whole.
+pub fn whole_part(bytes: &[u8], i: usize, out: &mut [u8]) -> Part
+    requires { ⌜ 24640 ≤ length (now out) ⌝ }
+    ensures { λ r. ⌜ take (r .written) (now (out .exit)) ≡ partText (now (bytes .entry)) i ⌝ }
+    ensures { λ r. ⌜ r .written ≤ 24640 ⌝ }
+    ensures { λ r. ⌜ r .more ≡ ltb (suc i) (parts (now (bytes .entry))) ⌝ }
+{
+    print_part(bytes, i, out)
 }

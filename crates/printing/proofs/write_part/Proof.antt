@@ -2,13 +2,12 @@
 use mathlib.Core.Path.{sym}
 use native.Mathlib.Omega.{arith}
 use borrow.Author.Needs.{needs}
-use lib.ListN.{length-replicate}
 use lib.Seq.{length-take-le}
 use Rattle.printing.proofs.write_part.Statement.{statement}
 use Rattle.printing.proofs.write_part.Tie as tie
 
 written : tie.Need-slice-aggregate-write-all
-written c = let e = (c .before .before .print-part) .ensures .1 .0 in let k = (c .before .before .print-part) .kept .1 .1 .0 in sym (length-take-le _ _ (omega arith))
+written c = let e = (c .before .before .whole-part) .ensures .1 .0 in let k = (c .before .before .whole-part) .kept .1 .1 .0 in sym (length-take-le _ _ (omega arith))
 
 pub write-part-spec : {M : Type 1} → statement M
 write-part-spec =

@@ -16,13 +16,13 @@ loop-holds : tie.Need-loop-holds Inv-loop μ-loop
 loop-holds c = lining-all (c .before .before .pre)
 
 add-end : tie.Need-add-end Inv-loop μ-loop
-add-end c = let h = lining-inside ((c .before .loop) .inv) ((c .loop-test) .taken) in let g = (c .before .before .before .before .good) .1 .1 .0 in search needs
+add-end c = let t = (c .loop-test) .taken in let h = lining-inside ((c .before .loop) .inv) (omega arith) in let g = (c .before .before .before .before .good) .1 .1 .0 in search needs
 
 part-end : tie.Need-part-put-row-end Inv-loop μ-loop
-part-end c = lining-inside ((c .before .before .loop) .inv) ((c .before .loop-test) .taken)
+part-end c = let t = (c .before .loop-test) .taken in lining-inside ((c .before .before .loop) .inv) (omega arith)
 
 loop-again : tie.Need-loop-again Inv-loop μ-loop
-loop-again c = lining-again ((c .before .before .before .before .before .before .loop) .left) ((c .before .before .before .before .before .before .loop) .inv) ((c .before .before .before .before .before .loop-test) .taken) ((c .before .before .put-row) .ensures)
+loop-again c = let t = (c .before .before .before .before .before .loop-test) .taken in lining-again ((c .before .before .before .before .before .before .loop) .left) ((c .before .before .before .before .before .before .loop) .inv) (omega arith) ((c .before .before .put-row) .ensures)
 
 same-length : tie.Need-same-length Inv-loop μ-loop
 same-length c = (c .before .loop) .inv .rest .size
