@@ -15,7 +15,7 @@ use Rattle.semantics.proofs.Tests.{cond-true, cond-false}
 use Rattle.text.specs.Put.{Put, Digits}
 use Rattle.text.proofs.Putting.{put-then}
 
-tenth : (n k : ℕ) → n < 10 ^ suc (suc k) → n / 10 < 10 ^ suc k
+pub tenth : (n k : ℕ) → n < 10 ^ suc (suc k) → n / 10 < 10 ^ suc k
 tenth n k h = let e = pow-suc 10 (suc k) in let g : n < 10 ^ suc k * 10 = rw (← e) h in div-lt-iff-lt-mul {k = 10} {x = n} {y = 10 ^ suc k} (omega arith) .1 g
 
 module _ {b c : List ℕ} {at n : ℕ} where

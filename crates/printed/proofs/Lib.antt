@@ -1,0 +1,5 @@
+pub mod Bindings
+pub mod Cut
+pub mod Menus
+pub mod Parts
+pub mod Whole
