@@ -43,8 +43,13 @@ pub fn show(name: &[u8], words: &[u32], spare: &[u8]) {
 }
 
 // The same, the words being written as text.
-pub fn case(name: &[u8], text: &[u8], spare: &[u8]) {
+pub fn spare_case(name: &[u8], text: &[u8], spare: &[u8]) {
     let mut words = [0u32; 256];
     let end = write(&mut words, 0, text);
     show(name, front(&words, end), spare);
+}
+
+// The same without spare bytes.
+pub fn case(name: &[u8], text: &[u8]) {
+    spare_case(name, text, b"");
 }

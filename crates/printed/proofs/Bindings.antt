@@ -1,8 +1,8 @@
 -- The words of a menu read back: rows of VALUE words are the bindings that they were written from, since every value of an accepted net has
 -- fourteen bits. The lines of rows are put row by row. Rests on semantics/proofs/{Words, Menu} and text/proofs/Putting.
-use mathlib.Core.Path.{_≡_, refl, sym, ap, _∙_, subst}
-use mathlib.Core.Bool.{Bool, true, false, _&&_}
-use mathlib.Core.List.{List, [], _∷_, _++_, map, flatMap, append-assoc, List·Memᴰ}
+use mathlib.Core.Path.{_≡_, refl, ap, _∙_, subst}
+use mathlib.Core.Bool.{true}
+use mathlib.Core.List.{List, [], _∷_, _++_, map, flatMap, append-assoc}
 use Prim.Native.Nat.{ℕ, zero, suc, _+_, _*_, _-_, _%_, _^_, _≤_, _<_}
 use native.Mathlib.Nat.{suc-mul}
 use native.Mathlib.Omega.{arith}
@@ -16,7 +16,6 @@ use Rattle.semantics.specs.Net.{Place, Transition}
 use Rattle.semantics.specs.Order.{inRanges}
 use Rattle.semantics.specs.Marking.{Counts}
 use Rattle.semantics.specs.Run.{menu}
-use Rattle.semantics.specs.Print.{line, fields}
 use Rattle.semantics.proofs.Tests.{false-true, and-left, and-right, Every-of}
 use Rattle.semantics.proofs.Words.{modulo-below, signed-modulo, within-mag}
 use Rattle.semantics.proofs.Accepted.{Valued, SoundTransition}
@@ -75,30 +74,30 @@ rows-back w (b ∷ bs) rest e =
 -- ── Lines ──
 
 -- of the lines of n rows, those from a position of the words on are left
-pub record Lining (b : List ℕ) (at : ℕ) (ws : List ℕ) (w n : ℕ) (c : List ℕ) (mid from left : ℕ) : Type 0 where
+pub record LinesLeft (b : List ℕ) (at : ℕ) (ws : List ℕ) (w n : ℕ) (c : List ℕ) (mid from left : ℕ) : Type 0 where
   pub rest : Left b at (rowsText w n ws) c mid (rowsText w left (drop from ws))
   pub room : from + left * w ≤ length ws
 
 module _ {b ws : List ℕ} {at w n : ℕ} where
-  pub lining-all : n * w ≤ length ws → Lining b at ws w n b at 0 n
-  lining-all h = record { rest = left-all; room = omega arith }
+  pub lines-all : n * w ≤ length ws → LinesLeft b at ws w n b at 0 n
+  lines-all h = record { rest = left-all; room = omega arith }
 
-  module _ {c : List ℕ} {mid from left : ℕ} (l : Lining b at ws w n c mid from left) where
-    pub lining-inside : 0 < left → from + w ≤ length ws
-    lining-inside h = by left (l .room) h
+  module _ {c : List ℕ} {mid from left : ℕ} (l : LinesLeft b at ws w n c mid from left) where
+    pub lines-inside : 0 < left → from + w ≤ length ws
+    lines-inside h = by left (l .room) h
       where
         by : (k : ℕ) → from + k * w ≤ length ws → 0 < k → from + w ≤ length ws
         by zero r p = absurd (omega arith)
         by (suc k) r p = omega (arith, suc-mul k w)
 
-    pub lining-none : left ≡ 0 → Put b at (rowsText w n ws) c mid
+    pub lines-none : left ≡ 0 → Put b at (rowsText w n ws) c mid
     unfolding rowsOf flatMap
-    lining-none e = left-none (rw e at (l .rest))
+    lines-none e = left-none (rw e at (l .rest))
 
-pub lining-again : {b ws c d : List ℕ} {at w n mid from end : ℕ} (left : ℕ) → Lining b at ws w n c mid from left → 0 < left → Put c mid (rowText (take (from + w - from) (drop from ws))) d end → Lining b at ws w n d end (from + w) (left - 1)
+pub lines-again : {b ws c d : List ℕ} {at w n mid from end : ℕ} (left : ℕ) → LinesLeft b at ws w n c mid from left → 0 < left → Put c mid (rowText (take (from + w - from) (drop from ws))) d end → LinesLeft b at ws w n d end (from + w) (left - 1)
 unfolding rowsOf flatMap
-lining-again zero l h p = absurd (omega arith)
-lining-again {ws = ws} {c = c} {d = d} {w = w} {mid = mid} {from = from} {end = end} (suc k) l h p =
+lines-again zero l h p = absurd (omega arith)
+lines-again {ws = ws} {c = c} {d = d} {w = w} {mid = mid} {from = from} {end = end} (suc k) l h p =
     let s = suc-mul k w in
     let r = l .room in
     let e : suc k - 1 ≡ k = omega arith in

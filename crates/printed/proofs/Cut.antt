@@ -1,7 +1,7 @@
 -- A net at the front of words is the net of the words up to its end, and no refusal of words has the number 0.
 -- The idea: a reading that ends by some position reads the same from the words cut there, since no reader goes back. One law for each way of
 -- making a reader, so that the law of a structure is written as its reader is, line by line. Rests on semantics/proofs/{Accepted, Spans}.
-use mathlib.Core.Path.{_≡_, refl, sym, ap, _∙_, subst}
+use mathlib.Core.Path.{_≡_, refl, sym, ap, _∙_}
 use mathlib.Core.Bool.{Bool, true, false, cond, _&&_}
 use mathlib.Core.List.{List, [], _∷_}
 use mathlib.Core.Option.{Option, none, some}
@@ -15,7 +15,7 @@ use Rattle.semantics.specs.Refusal.{netTooLong, netEndsEarly, mostWords, mostEx
 use Rattle.semantics.specs.Word.{kind, payload, bits, only, between}
 use Rattle.semantics.specs.Expression.{Expression}
 use Rattle.semantics.specs.Reading.{Reading, read, refused, then, Reader, several, demand, wordAt, word}
-use Rattle.semantics.specs.Net.{Place, Transition, Net, rangesAt}
+use Rattle.semantics.specs.Net.{Place, Net, rangesAt}
 use Rattle.semantics.specs.ReadNet.{Head, constantHead, variableHead, binaryHead, loadHead, operatorHead, headOf, headAt, operands, expressionIn, readExpression, readRange, readPlace, readArc, readConjunct, readElement, transitionWord, readTransition, netWord, readNet}
 use Rattle.semantics.specs.Plan.{plansFault, withPlans, acceptFront, acceptNet}
 use Rattle.semantics.proofs.Accepted.{front-read, accepted-read}

@@ -2,27 +2,21 @@
 -- The idea: a menu that is found is the whole menu of the transition, and its words read back are its bindings. Rests on Bindings and
 -- semantics/proofs/{Plans, Offer}.
 use mathlib.Core.Path.{_≡_, refl, sym, ap, _∙_, subst}
-use mathlib.Core.Bool.{Bool, true, false, _&&_}
 use mathlib.Core.List.{List, [], _∷_, _++_, map, flatMap}
-use mathlib.Core.Option.{some}
 use Prim.Native.Nat.{ℕ, _*_, _≤_}
-use native.Mathlib.Omega.{arith}
 use borrow.Author.Tests.{leb-true}
 use lib.Dec.{leb}
 use lib.IntN.{ℤ}
-use lib.ListN.{length, getElem?, drop}
+use lib.ListN.{length, drop}
 use Rattle.semantics.specs.Refusal.{mostBindings}
-use Rattle.semantics.specs.Lists.{Every}
 use Rattle.semantics.specs.Word.{valueWord}
 use Rattle.semantics.specs.Expression.{houseTable}
-use Rattle.semantics.specs.Reading.{Reading, read, refused}
-use Rattle.semantics.specs.Net.{Transition, Net}
-use Rattle.semantics.specs.Plan.{acceptNet}
-use Rattle.semantics.specs.Marking.{Entry, readMarking, countsOf}
+use Rattle.semantics.specs.Reading.{read}
+use Rattle.semantics.specs.Marking.{countsOf}
 use Rattle.semantics.specs.Run.{menu, Offer, offered, withheld, offer}
 use Rattle.semantics.specs.declared.Listed.{Listed}
 use Rattle.semantics.specs.declared.Listed.the-variants.{Found, Refused as MenuRefused}
-use Rattle.semantics.specs.Calls.{Situation, situation, MenuEnd, listedBy, listedIn, menuCall}
+use Rattle.semantics.specs.Calls.{Situation, situation, MenuEnd, listedBy, menuCall}
 use Rattle.semantics.specs.Print.{decimal, refusedText, line, fields, offerText}
 use Rattle.semantics.proofs.Tests.{false-true, and-right, Every-at}
 use Rattle.semantics.proofs.Members.{at-member}
@@ -35,7 +29,7 @@ use Rattle.search.specs.Search.{menuEnd}
 use Rattle.text.specs.Put.{Put}
 use Rattle.text.proofs.Putting.{put-then}
 use Rattle.printed.specs.Part.{rowsText, Ready, IsMenuText}
-use Rattle.printed.proofs.Bindings.{Fit, menu-fits, rows-back}
+use Rattle.printed.proofs.Bindings.{menu-fits, rows-back}
 
 module _ (buffer : List ℕ) {ws ms after : List ℕ} {t width : ℕ} {a : Listed} (R : Ready ws t ms width) (E : menuEnd a after ≡ menuCall ws t ms 1000000 buffer) (size : length buffer ≡ 4096) where
   -- ── A menu that is found ──

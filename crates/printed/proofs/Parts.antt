@@ -1,16 +1,15 @@
 -- A part of the text from what each function is handed: refused input has one part, and otherwise a part is the text of a transition.
 -- The idea: the code makes the tests of `texts` in their order, and each return is a rule here. Rests on Cut, Menus and specs/{Texts, Part}.
 use mathlib.Core.Path.{_≡_, refl, sym, ap, _∙_, subst}
-use mathlib.Core.Bool.{Bool, true, false, cond}
+use mathlib.Core.Bool.{false}
 use mathlib.Core.List.{List, [], _∷_, _++_}
-use mathlib.Core.Option.{Option, none, some}
+use mathlib.Core.Option.{some}
 use Prim.Native.Nat.{ℕ, zero, suc, _+_, _-_, _/_, _%_, _≤_, _<_, min}
 use native.Mathlib.Omega.{arith}
 use borrow.Author.Tests.{le-ltb, le-leb, lt-leb, eq-eqb, ne-eqb}
-use lib.Dec.{leb, ltb, eqb}
+use lib.Dec.{ltb}
 use lib.ListN.{length, getD, getElem?, take, drop, length-drop, List·getD-eq-default}
 use lib.Seq.{sets, take-at, take-all, length-take-le}
-use Rattle.semantics.specs.Refusal.{netTooLong, netEndsEarly, mostWords}
 use Rattle.semantics.specs.Word.{wordsOfBytes}
 use Rattle.semantics.specs.Expression.{houseTable}
 use Rattle.semantics.specs.Reading.{Reading, read, refused, then}
@@ -32,7 +31,7 @@ use Rattle.word.proofs.Copying.{words-length}
 use Rattle.text.specs.Put.{Put}
 use Rattle.text.proofs.Putting.{put-none}
 use Rattle.printed.specs.declared.part.Part.{Part}
-use Rattle.printed.specs.Texts.{menuTexts, markingTexts, netTexts, texts, parts, partText}
+use Rattle.printed.specs.Texts.{menuTexts, markingTexts, netTexts, texts}
 use Rattle.printed.specs.Part.{IsPart, Accepts, IsNetPart, Ready, IsMenuText}
 use Rattle.printed.proofs.Cut.{front-alone, front-refused, headed}
 

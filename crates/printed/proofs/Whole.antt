@@ -2,14 +2,14 @@
 -- most 64 parts.
 -- The idea: `texts` follows `printed` case by case. A value takes at most five bytes and one that parts it from the next, a menu has at most
 -- 4,096 values, and a transition without variables has at most one binding. Rests on Bindings, Parts and specs/Texts.
-use mathlib.Core.Path.{_≡_, refl, sym, ap, _∙_, subst}
+use mathlib.Core.Path.{_≡_, refl, sym, ap, _∙_}
 use mathlib.Core.Logic.{_⊎_, inl, inr}
-use mathlib.Core.Bool.{Bool, true, false, cond, _&&_}
+use mathlib.Core.Bool.{Bool, true, false, cond}
 use mathlib.Core.List.{List, [], _∷_, _++_, flatMap, append-nil, append-assoc}
 use Prim.Native.Nat.{ℕ, zero, suc, _+_, _*_, _-_, _/_, _%_, _^_, _≤_, _<_, min}
 use native.Mathlib.Nat.{suc-mul, add-le-add}
 use native.Mathlib.Omega.{arith}
-use borrow.Author.Tests.{leb-true, leb-false, lt-leb, ltb-true, ltb-false}
+use borrow.Author.Tests.{leb-true, leb-false, lt-leb, ltb-false}
 use lib.Dec.{leb, ltb}
 use lib.IntN.{ℤ, pos, negsuc}
 use lib.Signed.{mag}
@@ -20,7 +20,7 @@ use Rattle.semantics.specs.Lists.{Every, consIf, select}
 use Rattle.semantics.specs.Word.{Range, wordsOfBytes}
 use Rattle.semantics.specs.Expression.{houseTable}
 use Rattle.semantics.specs.Reading.{Reading, read, refused}
-use Rattle.semantics.specs.Net.{Place, Transition, Net}
+use Rattle.semantics.specs.Net.{Transition, Net}
 use Rattle.semantics.specs.Order.{tuples}
 use Rattle.semantics.specs.Plan.{acceptFront}
 use Rattle.semantics.specs.Marking.{Entry, Counts, readMarking, countsOf}
@@ -99,6 +99,9 @@ texts-prefix bytes = by (either (leb (length bytes) 65536))
         let l = length-take 65537 bytes in
         let h = leb-false (length bytes) 65536 e in
         rw (lt-leb (length (take 65537 bytes)) 65536 (omega arith), lt-leb (length bytes) 65536 h) refl
+
+pub printed-prefix : (bytes : List ℕ) → printed (take 65537 bytes) ≡ printed bytes
+printed-prefix bytes = texts-joined (take 65537 bytes) ∙ ap joined (texts-prefix bytes) ∙ sym (texts-joined bytes)
 
 -- ── Numbers ──
 

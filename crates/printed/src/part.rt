@@ -22,7 +22,7 @@ pub struct Part {
     pub more: bool,
 }
 
-// The only part for input that is refused.
+// Part i for input that is refused: the first one is its line, and there is no other.
 fn refusal_part(out: &mut [u8], i: usize, number: usize, position: usize) -> Part
     ensures { λ r. ⌜ IsPart (badInput number position ∷ []) i (now (out .entry)) r (now (out .exit)) ⌝ }
 {
@@ -39,7 +39,7 @@ fn refusal_part(out: &mut [u8], i: usize, number: usize, position: usize) -> Par
     }
 }
 
-// The part for an accepted net and the words of a marking.
+// Part i for an accepted net and the words of a marking: the menu of the transition i.
 fn net_part(out: &mut [u8], i: usize, net: &[u32], marking: &[u32]) -> Part
     requires { ⌜ Accepts (now net) ⌝ }
     ensures { λ r. ⌜ IsNetPart (now (net .entry)) (now (marking .entry)) i (now (out .entry)) r (now (out .exit)) ⌝ }
@@ -66,7 +66,7 @@ fn net_part(out: &mut [u8], i: usize, net: &[u32], marking: &[u32]) -> Part
     }
 }
 
-// The part for words: a net, and after it a marking.
+// Part i for words: a net, and after it a marking, which is read from the part of the words that split hands back.
 fn words_part(out: &mut [u8], i: usize, words: &[u32]) -> Part
     ensures { λ r. ⌜ IsPart (netTexts (now (words .entry)) (acceptFront (now (words .entry)))) i (now (out .entry)) r (now (out .exit)) ⌝ }
 {
@@ -80,7 +80,7 @@ fn words_part(out: &mut [u8], i: usize, words: &[u32]) -> Part
     net_part(out, i, &words[..end], marking)
 }
 
-// Writes the part of a number of the text for bytes to the front of a buffer, as much of it as finds room.
+// Writes part i of the text for bytes to the front of a buffer, as much of it as finds room.
 pub fn print_part(bytes: &[u8], i: usize, out: &mut [u8]) -> Part
     ensures { λ r. ⌜ now (out .exit) ≡ sets (now (out .entry)) 0 (partText (now (bytes .entry)) i) ⌝ }
     ensures { λ r. ⌜ r .written ≡ min (length (partText (now (bytes .entry)) i)) (length (now (out .entry))) ⌝ }
@@ -97,7 +97,7 @@ pub fn print_part(bytes: &[u8], i: usize, out: &mut [u8]) -> Part
     words_part(out, i, &words[..n])
 }
 
-// The same in a buffer that holds every part whole.
+// The same in a buffer with room for every part: the whole part is written.
 pub fn whole_part(bytes: &[u8], i: usize, out: &mut [u8]) -> Part
     requires { ⌜ 24640 ≤ length (now out) ⌝ }
     ensures { λ r. ⌜ take (r .written) (now (out .exit)) ≡ partText (now (bytes .entry)) i ⌝ }

@@ -6,7 +6,7 @@ ghost use Prim.Native.Nat.{suc};
 ghost use lib.Dec.{ltb};
 ghost use Rattle.printed.specs.Texts.{parts};
 
-// Writes the part of a number for bytes; answers whether another follows.
+// Writes part i for bytes; answers whether another follows.
 fn write_part(bytes: &[u8], i: usize) -> bool
     ensures { λ r. ⌜ r ≡ ltb (suc i) (parts (now (bytes .entry))) ⌝ }
 {

@@ -1,17 +1,13 @@
 -- Numbers in decimal. The idea: the digits before the last one are those of the tenth part, in one round less.
 -- Rests on Putting.
 use mathlib.Core.Path.{_≡_, refl}
-use mathlib.Core.Bool.{true, false}
-use mathlib.Core.List.{List, [], _∷_, _++_}
+use mathlib.Core.List.{List, [], _∷_}
 use Prim.Native.Nat.{ℕ, zero, suc, _+_, _*_, _-_, _/_, _%_, _^_, _≤_, _<_}
 use native.Mathlib.Nat.{pow-suc, div-lt-iff-lt-mul}
 use native.Mathlib.Omega.{arith}
 use borrow.Author.Tests.{lt-ltb, le-ltb}
-use lib.Dec.{ltb}
-use lib.IntN.{ℤ, pos, negsuc}
 use Rattle.semantics.specs.Word.{signed}
 use Rattle.semantics.specs.Print.{digitsIn, decimal, signedDecimal}
-use Rattle.semantics.proofs.Tests.{cond-true, cond-false}
 use Rattle.text.specs.Put.{Put, Digits}
 use Rattle.text.proofs.Putting.{put-then}
 

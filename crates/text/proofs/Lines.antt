@@ -2,13 +2,13 @@
 -- Rests on Putting.
 use mathlib.Core.Path.{_≡_, refl}
 use mathlib.Core.List.{List, [], _∷_, map}
-use Prim.Native.Nat.{ℕ, suc, _+_, _%_, _≤_, _<_}
+use Prim.Native.Nat.{ℕ, _+_, _%_, _≤_, _<_}
 use native.Mathlib.Numerals.{add-one}
 use native.Mathlib.Omega.{arith}
 use lib.ListN.{length, getD, drop, drop-of-length-le}
 use lib.Seq.{drop-cons}
 use Rattle.semantics.specs.Word.{signed}
-use Rattle.semantics.specs.Print.{signedDecimal, afterFirst, line, fields}
+use Rattle.semantics.specs.Print.{signedDecimal, afterFirst, fields}
 use Rattle.text.specs.Put.{Put, rowText}
 use Rattle.text.proofs.Putting.{put-then, Left, left-after, left-last}
 

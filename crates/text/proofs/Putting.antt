@@ -3,14 +3,13 @@
 -- Rests on specs/Put.
 use mathlib.Core.Path.{_≡_, refl, sym, ap, _∙_}
 use mathlib.Core.Logic.{_⊎_, inl, inr}
-use mathlib.Core.Bool.{Bool, true, false, cond}
-use mathlib.Core.List.{List, [], _∷_, _++_, append-nil}
-use Prim.Native.Nat.{ℕ, zero, suc, _+_, _*_, _-_, _/_, _%_, _^_, _≤_, _<_, min}
+use mathlib.Core.Bool.{true, false}
+use mathlib.Core.List.{List, [], _∷_, _++_}
+use Prim.Native.Nat.{ℕ, suc, _+_, _-_, _≤_, _<_, min}
 use native.Mathlib.Omega.{arith}
-use native.Mathlib.Numerals.{add-one}
 use borrow.Author.Tests.{leb-true, leb-false}
 use lib.Dec.{leb}
-use lib.ListN.{length, take, drop, set, length-append, length-set}
+use lib.ListN.{length, take, drop, set, length-append}
 use lib.Seq.{sets, length-sets, sets-eq, set-out}
 use Rattle.semantics.proofs.Tests.{either}
 use Rattle.text.specs.Put.{Put}
@@ -50,7 +49,7 @@ module _ {b : List ℕ} {at : ℕ} where
   pub put-size : {t c : List ℕ} {end : ℕ} → Put b at t c end → length c ≡ length b
   put-size {t} p = ap length (p .bytes) ∙ length-sets b at t
 
-  -- THE law: text after text
+  -- the law: text after text
   pub put-then : {s t c d : List ℕ} {mid end : ℕ} → Put b at s c mid → Put c mid t d end → Put b at (s ++ t) d end
   put-then {s} {t} {c} {d} {mid} p q =
       let n : length c ≡ length b = put-size p in

@@ -3,7 +3,7 @@ use Prim.Native.Nat.{suc, _-_, _<_}
 use native.Mathlib.Omega.{arith}
 use borrow.Author.Needs.{needs}
 use borrow.Author.Tests.{ltb-true}
-use mathlib.Core.Path.{_≡_, sym, _∙_}
+use mathlib.Core.Path.{sym, _∙_}
 use Rattle.printed.specs.Texts.{parts}
 use Rattle.printed.proofs.Whole.{parts-few}
 use Rattle.printing.proofs.write_printed.Statement.{statement}

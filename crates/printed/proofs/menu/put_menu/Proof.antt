@@ -1,8 +1,7 @@
 -- `printed::menu::put_menu` meets its contract: each return is a rule of `Menus`.
-use mathlib.Core.Path.{_≡_, refl, sym, ap, _∙_}
 use Prim.Native.Nat.{ℕ}
 use borrow.Author.Needs.{needs}
-use lib.ListN.{length, length-replicate}
+use lib.ListN.{length-replicate}
 use Rattle.printed.proofs.Menus.{found-room, found-text, withheld-text}
 use Rattle.printed.proofs.menu.put_menu.Statement.{statement}
 use Rattle.printed.proofs.menu.put_menu.Tie as tie

@@ -1,5 +1,4 @@
 -- `printed::part::net_part` meets its contract: each return is a rule of `Parts`.
-use native.Mathlib.Omega.{arith}
 use borrow.Author.Needs.{needs}
 use Rattle.printed.proofs.Cut.{headed}
 use Rattle.printed.proofs.Parts.{net-past, net-refused, net-ready, net-menu}

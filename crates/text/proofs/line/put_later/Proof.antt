@@ -1,7 +1,6 @@
 -- `text::line::put_later` meets its contract: the loop keeps what is left of the line.
 use borrow.Author.Needs.{needs}
 use Prim.Native.Nat.{_-_}
-use native.Mathlib.Omega.{arith}
 use lib.ListN.{length}
 use Rattle.text.proofs.Putting.{Left, left-all}
 use Rattle.text.proofs.Lines.{laterText, later-again, later-ends}

@@ -1,7 +1,7 @@
 -- `text::number::put_value` meets its contract: each half of the fourteen bits by its law.
 use borrow.Author.Needs.{needs}
 use native.Mathlib.Omega.{arith}
-use Prim.Native.Nat.{_%_, _≤_, _<_}
+use Prim.Native.Nat.{_%_, _<_}
 use Rattle.text.proofs.Putting.{put-then}
 use Rattle.text.proofs.Digits.{value-natural, value-negative}
 use Rattle.text.proofs.number.put_value.Statement.{statement}

@@ -1,8 +1,5 @@
 -- `text::put::put_bytes` meets its contract: the loop keeps what is left to put.
-use mathlib.Core.Path.{_≡_, subst}
-use mathlib.Core.List.{List, []}
 use Prim.Native.Nat.{_-_}
-use native.Mathlib.Omega.{arith}
 use native.Mathlib.Numerals.{add-one}
 use borrow.Author.Needs.{needs}
 use lib.ListN.{length, drop, drop-of-length-le}
