@@ -1,18 +1,18 @@
 -- The rules of a leaf: an enabled binding is one row more, any other none; where a row had no room the listing stays over.
 use mathlib.Core.Path.{_≡_, refl, sym, ap, _∙_, subst}
-use mathlib.Core.Bool.{Bool, true, false, not, cond}
+use mathlib.Core.Bool.{Bool, true, false, not}
 use mathlib.Core.List.{List, [], _∷_}
-use Prim.Native.Nat.{ℕ, _+_, _*_, _≤_}
+use Prim.Native.Nat.{ℕ, _+_, _*_}
 use native.Mathlib.Omega.{arith}
 use borrow.Author.Tests.{not-true, not-false}
 use lib.IntN.{ℤ}
 use lib.ListN.{length, take, drop}
 use Rattle.semantics.specs.Lists.{consIf}
 use Rattle.occurrence.specs.Answers.{IsEnabledAt}
-use Rattle.rows.specs.Rows.{valuesOfWords, rowsOf, Kept, Listing, listed, over, addRow, addAll, listingOf, Added}
+use Rattle.rows.specs.Rows.{valuesOfWords, rowsOf, Kept, listed, over, addRow, addAll, listingOf, Added}
 use Rattle.rows.proofs.Listings.{add-over}
 use Rattle.search.specs.declared.progress.Progress.{Progress}
-use Rattle.search.specs.Search.{Outcome, reached, settle, outcomeOf, Held, Unspent, Ended, IsLeaf}
+use Rattle.search.specs.Search.{reached, settle, outcomeOf, Held, Unspent, Ended, IsLeaf}
 use Rattle.search.proofs.Settling.{settle-in}
 
 module _ (ws ps conjuncts inputs ms begins : List ℕ) (w most : ℕ) (b : List ℕ) (s : Progress) (m : List ℕ) (h : Held w most (s .rows) m) where

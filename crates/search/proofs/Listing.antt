@@ -4,40 +4,38 @@ use mathlib.Core.Path.{_≡_, refl, sym, ap, _∙_, subst}
 use mathlib.Core.Logic.{_⊎_, inl, inr}
 use mathlib.Core.Bool.{Bool, true, false, cond, _&&_}
 use mathlib.Core.List.{List, [], _∷_, _++_, map, flatMap}
-use mathlib.Core.Option.{Option, none, some}
+use mathlib.Core.Option.{none}
 use Prim.Native.Nat.{ℕ, zero, suc, _+_, _*_, _/_, min, _≤_, _<_}
 use native.Mathlib.Omega.{arith}
 use native.Mathlib.Nat.{div-mul-le-self, mul-le-mul-right, div-add-mod', mod-lt, suc-mul, zero-mul, mul-zero, zero-add}
 use borrow.Author.Tests.{le-leb, lt-leb, leb-true, leb-false, eq-eqb, ne-eqb, eqb-true, eqb-false}
 use lib.Dec.{leb, eqb}
 use lib.IntN.{ℤ}
-use lib.ListN.{length, take, drop, replicate, length-take, take-append-drop}
+use lib.ListN.{length, take, drop, replicate, take-append-drop}
 use lib.Seq.{length-take-le}
-use Rattle.semantics.specs.declared.Listed.{Listed}
 use Rattle.semantics.specs.declared.Listed.the-variants.{Found, Refused as MenuRefused}
 use Rattle.semantics.specs.Refusal.{overBudget, overMenu, mostBindings}
 use Rattle.semantics.specs.Word.{valueWord}
 use Rattle.semantics.specs.Expression.{houseTable}
-use Rattle.semantics.specs.Net.{Element, Transition, Net}
 use Rattle.semantics.specs.Order.{insertAll}
 use Rattle.semantics.specs.Marking.{Proper}
 use Rattle.semantics.specs.Tries.{Partial, empty, allTries, leaves}
-use Rattle.semantics.specs.Run.{menu, Offer, offered, withheld, menuFits, offer}
-use Rattle.semantics.specs.Calls.{Situation, MenuEnd, listedBy}
-use Rattle.semantics.proofs.Tests.{either, and-both, and-left, and-right}
+use Rattle.semantics.specs.Run.{menu, menuFits, offer}
+use Rattle.semantics.specs.Calls.{Situation, listedBy}
+use Rattle.semantics.proofs.Tests.{either, and-both}
 use Rattle.semantics.proofs.Leaves.{Sound, sound-empty}
 use Rattle.semantics.proofs.Menu.{found-menu}
 use Rattle.expression.specs.Evaluate.{valueOf}
 use Rattle.marking.proofs.Counted.{marking-counts}
 use Rattle.net.specs.declared.index.TransitionIndex.{TransitionIndex}
 use Rattle.net.specs.Index.{outlined}
-use Rattle.rows.specs.Rows.{rowsOf, Kept, Listing, listed, over, listedIf, addAll, listingOf}
+use Rattle.rows.specs.Rows.{rowsOf, Listing, listed, over, listedIf, addAll, listingOf}
 use Rattle.rows.proofs.Listings.{add-all}
 use Rattle.rows.proofs.Rows.{rows-words, rows-length}
 use Rattle.tries.specs.Partial.{partialOf}
 use Rattle.tries.specs.World.{World}
 use Rattle.search.specs.declared.progress.Progress.{Progress}
-use Rattle.search.specs.Search.{costFrom, rowsFrom, Outcome, exhausted, reached, settle, outcomeOf, Held, Unspent, Ended, menuEnd}
+use Rattle.search.specs.Search.{costFrom, rowsFrom, exhausted, reached, settle, outcomeOf, Held, Ended, menuEnd}
 use Rattle.search.specs.Scene.{sceneOf}
 use Rattle.search.specs.Menu.{mostRows, Listable}
 use Rattle.search.proofs.Settling.{settled-on, settled-past}

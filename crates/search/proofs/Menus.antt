@@ -1,17 +1,17 @@
 -- The rules of the call: refused input is told as it is, and what was prepared is all that listing the bindings asks.
 use mathlib.Core.Path.{_≡_, refl, sym, ap, _∙_, subst}
-use mathlib.Core.List.{List, [], _∷_}
+use mathlib.Core.List.{List}
 use Prim.Native.Nat.{ℕ}
 use lib.ListN.{length, take}
 use Rattle.semantics.specs.declared.Listed.{Listed}
-use Rattle.semantics.specs.declared.Listed.the-variants.{Found, Refused as MenuRefused}
+use Rattle.semantics.specs.declared.Listed.the-variants.{Refused as MenuRefused}
 use Rattle.semantics.specs.Expression.{houseTable}
 use Rattle.semantics.specs.Run.{offer}
 use Rattle.semantics.specs.Marking.{countsOf}
 use Rattle.semantics.specs.Calls.{Situation, listedBy, menuCall}
 use Rattle.semantics.proofs.Members.{at-member}
 use Rattle.semantics.proofs.Accepted.{accepted-planned}
-use Rattle.expression.specs.declared.read.Skipped.the-variants.{Next, Refused}
+use Rattle.expression.specs.declared.read.Skipped.the-variants.{Refused}
 use Rattle.net.specs.Skim.{Outline}
 use Rattle.net.specs.Index.{outlined}
 use Rattle.occurrence.specs.declared.situation.Situation.{Situation as Prepared-numbers}

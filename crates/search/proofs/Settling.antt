@@ -1,14 +1,14 @@
 -- Tries held against a budget: within it the search goes on, past it it is exhausted, and each is known from the outcome.
-use mathlib.Core.Path.{_≡_, refl, sym, ap, _∙_}
+use mathlib.Core.Path.{_≡_, sym}
 use mathlib.Core.Logic.{_⊎_, inl, inr}
-use mathlib.Core.Bool.{Bool, true, false, cond}
+use mathlib.Core.Bool.{true, false}
 use Prim.Native.Nat.{ℕ, _≤_, _<_}
 use native.Mathlib.Omega.{arith}
 use borrow.Author.Tests.{le-leb, lt-leb, leb-true, leb-false}
 use lib.Dec.{leb}
 use Rattle.semantics.proofs.Tests.{either}
 use Rattle.rows.specs.Rows.{Listing}
-use Rattle.search.specs.Search.{Outcome, exhausted, reached, settle}
+use Rattle.search.specs.Search.{exhausted, reached, settle}
 
 pub settle-in : (budget t : ℕ) (l : Listing) → t ≤ budget → settle budget t l ≡ reached t l
 settle-in budget t l h = rw (le-leb t budget h)

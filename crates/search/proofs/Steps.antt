@@ -1,5 +1,5 @@
 -- Cost and rows of a plan by its first element: they are those of its tries, one after the other.
-use mathlib.Core.Path.{_≡_, refl, sym, ap, _∙_, subst}
+use mathlib.Core.Path.{_≡_, refl, sym, ap, _∙_}
 use mathlib.Core.Bool.{Bool, true, false}
 use mathlib.Core.List.{List, [], _∷_, _++_, map, List·Memᴰ, List·Memᴰ·head, List·Memᴰ·tail}
 use mathlib.Core.Option.{Option, none, some}
@@ -9,7 +9,7 @@ use lib.IntN.{ℤ}
 use lib.ListN.{length, getD}
 use Rattle.semantics.specs.Lists.{consIf, select}
 use Rattle.semantics.specs.Expression.{houseTable}
-use Rattle.semantics.specs.Net.{Sort, Element}
+use Rattle.semantics.specs.Net.{Element}
 use Rattle.semantics.specs.Enabling.{isEnabled}
 use Rattle.semantics.specs.Tries.{Partial, bindingOf, tries, countTries, gather, triesFrom, leavesFrom}
 use Rattle.semantics.specs.Calls.{Situation}

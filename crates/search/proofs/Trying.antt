@@ -1,10 +1,10 @@
 -- The tries of one element, one after the other: what is ahead is what was ahead at first. A turn pays for one try and, where it goes on, for what the
 -- rest of the plan makes of it; past the budget the outcome is settled whatever is left.
 use mathlib.Core.Path.{_≡_, refl, sym, ap, _∙_, subst}
-use mathlib.Core.Bool.{Bool, true, false, cond}
+use mathlib.Core.Bool.{true, false}
 use mathlib.Core.List.{List, [], _∷_, _++_}
 use mathlib.Core.Option.{Option, none, some}
-use Prim.Native.Nat.{ℕ, zero, suc, _+_, _*_, _-_, _≤_, _<_}
+use Prim.Native.Nat.{ℕ, suc, _+_, _*_, _-_, _≤_, _<_}
 use native.Mathlib.Omega.{arith}
 use native.Mathlib.Nat.{mul-le-mul-right}
 use native.Mathlib.Numerals.{add-one}
@@ -12,11 +12,11 @@ use lib.IntN.{ℤ}
 use lib.ListN.{length, getD, drop, drop-of-length-le}
 use lib.Seq.{drop-cons, drop-drop}
 use Rattle.semantics.specs.Tries.{Partial, countTries}
-use Rattle.rows.specs.Rows.{Kept, Listing, addAll, listingOf}
+use Rattle.rows.specs.Rows.{Listing, addAll, listingOf}
 use Rattle.rows.proofs.Listings.{add-append}
 use Rattle.search.specs.declared.progress.Progress.{Progress}
 use Rattle.search.specs.Search.{Outcome, exhausted, reached, settle, outcomeOf, Held, Unspent, Ended}
-use Rattle.search.proofs.Settling.{settle-in, settle-past, On, settled-on, settled-past}
+use Rattle.search.proofs.Settling.{settle-in, settle-past, settled-on, settled-past}
 
 -- the rows of the tries that go on, one after the other
 unfoldable pub rowsOver : (Partial → List (List ℤ)) → List (Option Partial) → List (List ℤ)

@@ -1,10 +1,10 @@
 -- The rules of the search: at the end of the plan it is a leaf, and before it the tries of the next element. What they come to is what semantics says of
 -- the plan from the partial binding on.
-use mathlib.Core.Path.{_≡_, refl, sym, ap, _∙_, subst}
+use mathlib.Core.Path.{_≡_, sym, ap, _∙_, subst}
 use mathlib.Core.Bool.{Bool, true, false}
-use mathlib.Core.List.{List, [], _∷_, map, List·Memᴰ}
+use mathlib.Core.List.{List, [], map, List·Memᴰ}
 use mathlib.Core.Option.{Option, none, some}
-use Prim.Native.Nat.{ℕ, zero, suc, _+_, _≤_, _<_}
+use Prim.Native.Nat.{ℕ, _+_, _<_}
 use native.Mathlib.Omega.{arith}
 use lib.IntN.{ℤ}
 use lib.ListN.{length, getD, take, drop, drop-of-length-le}
@@ -29,7 +29,7 @@ use Rattle.tries.specs.Step.{Safe, Ready, triesBy, IsArrival}
 use Rattle.tries.specs.World.{World}
 use Rattle.tries.proofs.Tries.{arrival-ready, arrival-tries, tries-length}
 use Rattle.search.specs.declared.progress.Progress.{Progress}
-use Rattle.search.specs.Search.{costFrom, rowsFrom, Held, Unspent, Ended, IsLeaf}
+use Rattle.search.specs.Search.{costFrom, rowsFrom, Unspent, Ended, IsLeaf}
 use Rattle.search.proofs.Trying.{rowsOver}
 use Rattle.search.proofs.Worlds.{next-element, as-many}
 use Rattle.search.proofs.Values.{slots-values, enabled-full}

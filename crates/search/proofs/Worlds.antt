@@ -5,16 +5,16 @@ use Prim.Native.Nat.{ℕ, zero, suc, _+_, _≤_, _<_}
 use native.Mathlib.Omega.{arith}
 use lib.ListN.{length, getD, drop, length-map}
 use Rattle.semantics.specs.Lists.{Every}
-use Rattle.semantics.specs.Word.{payload, bits, only}
+use Rattle.semantics.specs.Word.{payload, bits}
 use Rattle.semantics.specs.Reading.{read, word}
-use Rattle.semantics.specs.Net.{Arc, Conjunct, Sort, Element, Transition}
+use Rattle.semantics.specs.Net.{Arc, Element}
 use Rattle.semantics.specs.ReadNet.{sortOf, readElement}
 use Rattle.semantics.specs.Calls.{Situation}
 use Rattle.semantics.proofs.Readers.{given}
 use Rattle.semantics.proofs.Spans.{then-read}
 use Rattle.semantics.proofs.Accepted.{SoundTransition, transition-sound}
 use Rattle.net.proofs.Located.{At, transition-parts}
-use Rattle.net.proofs.Placed.{word-here, variables-placed, variables-fit}
+use Rattle.net.proofs.Placed.{word-here, variables-fit}
 use Rattle.tries.specs.World.{World}
 
 -- an element that was read: its sort is in the word at its position

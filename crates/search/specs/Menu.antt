@@ -5,12 +5,12 @@ use mathlib.Core.Bool.{cond}
 use mathlib.Core.List.{List}
 use Prim.Native.Nat.{ℕ, _/_, min}
 use lib.Dec.{eqb}
-use lib.ListN.{length, take}
+use lib.ListN.{length}
 use Rattle.semantics.specs.declared.Listed.{Listed}
 use Rattle.semantics.specs.Refusal.{mostBindings}
 use Rattle.semantics.specs.Expression.{houseTable}
 use Rattle.semantics.specs.Run.{offer}
-use Rattle.semantics.specs.Calls.{Situation, listedBy}
+use Rattle.semantics.specs.Calls.{listedBy}
 use Rattle.net.specs.declared.index.TransitionIndex.{TransitionIndex}
 use Rattle.net.specs.Index.{outlined}
 use Rattle.tries.specs.World.{World}

@@ -1,9 +1,8 @@
 -- What a search comes to: the tries held against the budget, and the enabled bindings among the rows of the menu.
 -- Rests on semantics/specs/{Tries, Run, Calls} and rows/specs/Rows.
 use mathlib.Core.Path.{_≡_}
-use mathlib.Core.Bool.{Bool, true, false, cond}
-use mathlib.Core.List.{List, [], _∷_, _++_, map}
-use mathlib.Core.Option.{Option, none, some}
+use mathlib.Core.Bool.{Bool, false, cond}
+use mathlib.Core.List.{List, [], map}
 use Prim.Native.Nat.{ℕ, _+_, _*_, _≤_}
 use lib.Dec.{leb}
 use lib.IntN.{ℤ}
@@ -11,7 +10,7 @@ use lib.ListN.{length, take, drop}
 use Rattle.semantics.specs.declared.Listed.{Listed}
 use Rattle.semantics.specs.Lists.{consIf, select}
 use Rattle.semantics.specs.Expression.{houseTable}
-use Rattle.semantics.specs.Net.{Element, Transition, Net}
+use Rattle.semantics.specs.Net.{Element}
 use Rattle.semantics.specs.Enabling.{isEnabled}
 use Rattle.semantics.specs.Tries.{Partial, bindingOf, triesFrom, leavesFrom}
 use Rattle.semantics.specs.Calls.{Situation, MenuEnd}

@@ -7,11 +7,8 @@ use net::index::TransitionIndex;
 use occurrence::situation::prepare;
 use semantics::Listed;
 ghost use mathlib.Core.Path.{_≡_};
-ghost use Prim.Native.Nat.{_≤_, _*_};
 ghost use lib.ListN.{length, replicate};
 ghost use Rattle.semantics.specs.Calls.{menuCall};
-ghost use Rattle.tries.specs.World.{World};
-ghost use Rattle.search.specs.Scene.{sceneOf};
 ghost use Rattle.search.specs.Search.{menuEnd};
 ghost use Rattle.search.specs.Menu.{mostRows, Listable, IsListed};
 

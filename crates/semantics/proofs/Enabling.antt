@@ -14,13 +14,13 @@ use borrow.Author.Tests.{leb-true, le-leb, eqb-true, eq-eqb, not-true, not-false
 use lib.Dec.{T, eqb}
 use lib.IntN.{ℤ, pos, negsuc}
 use lib.Signed.{ltZ, leZ, ltZ-yes, leZ-yes}
-use Rattle.semantics.specs.Lists.{Every, every}
+use Rattle.semantics.specs.Lists.{every}
 use Rattle.semantics.specs.Expression.{Environment, value, valuesOf, bound}
 use Rattle.semantics.specs.Net.{Arc, Relation, equal, unequal, less, atMost, Conjunct, Transition}
 use Rattle.semantics.specs.Order.{sameInteger, sameTuple}
 use Rattle.semantics.specs.Marking.{Counts}
 use Rattle.semantics.specs.Enabling.{Flow, total, Related, Holds, Moves, AllMove, Enabled, related, compared, holds, flowBy, flow, flows, covers, coversAll, isEnabled}
-use Rattle.semantics.proofs.Tests.{false-true, either, not-both, and-left, and-right, and-both, cond-true, cond-false, integer-same, integer-refl, tuple-same, tuple-refl, every-at, every-of, Every-at, Every-of, every-fails, every-sound, every-complete}
+use Rattle.semantics.proofs.Tests.{false-true, either, not-both, and-left, and-right, and-both, cond-true, cond-false, integer-same, integer-refl, tuple-same, tuple-refl, every-at, every-of, Every-at, every-fails, every-sound, every-complete}
 
 -- ── Conjuncts ──
 

@@ -18,7 +18,7 @@ use Rattle.semantics.specs.Lists.{every, select}
 use Rattle.semantics.specs.Enabling.{total, holds, flow, flows, covers, isEnabled}
 use Rattle.semantics.specs.Tries.{coloursOn, matched, tries, countTries, gather, triesFrom, leavesFrom, allTries, leaves}
 use Rattle.semantics.specs.Run.{menu, offer}
-use Rattle.semantics.specs.Calls.{MenuEnd, situation, testCall, menuCall}
+use Rattle.semantics.specs.Calls.{situation, testCall, menuCall}
 use Rattle.semantics.specs.Print.{digitsIn, afterFirst, fields, menusText, printed}
 
 -- what the words of an expression without variables come to, and the position after them

@@ -1,18 +1,18 @@
 -- What a fit element is: refusal 5 read as facts. For a match, a solve and a range, the arc, the conjunct or the variable that it names,
 -- and the variables that it binds. Each law takes the test of `newlyBound` apart in the order in which it is made.
-use mathlib.Core.Path.{_≡_, refl, sym, ap, _∙_, subst}
+use mathlib.Core.Path.{_≡_, refl, sym, ap, _∙_}
 use mathlib.Core.Logic.{_⊎_, inl, inr}
 use mathlib.Core.Bool.{Bool, true, false, not, cond, _&&_}
 use mathlib.Core.List.{List, [], _∷_, _++_}
 use mathlib.Core.Option.{Option, none, some}
 use Prim.Native.Nat.{ℕ, zero, suc, _<_}
 use native.Mathlib.Omega.{arith}
-use borrow.Author.Tests.{ltb-true, not-true, leb-true}
+use borrow.Author.Tests.{ltb-true, not-true}
 use lib.Dec.{ltb}
 use lib.IntN.{pos, negsuc}
 use lib.ListN.{length, getElem?}
 use Rattle.semantics.specs.Expression.{Expression, constant, variable, binary, load, everyVariable}
-use Rattle.semantics.specs.Net.{Arc, Relation, equal, unequal, less, atMost, Conjunct, Sort, match, solve, range, Element, Transition}
+use Rattle.semantics.specs.Net.{Arc, Relation, equal, unequal, less, atMost, Conjunct, match, solve, range, Element, Transition}
 use Rattle.semantics.specs.Plan.{loneUnbound, positiveConstant, solvedBy, Solution, eitherSide, isEquation, solution, matchBinds, solutionBinds, solveBinds, newlyBound, member, everyBelow, fitOr, planFault}
 use Rattle.semantics.proofs.Tests.{false-true, either, and-left, and-right, cond-true, cond-false}
 use Rattle.semantics.proofs.Members.{none-some}

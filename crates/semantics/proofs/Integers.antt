@@ -1,15 +1,14 @@
 -- The order of integers by its tests, and the values of a range: they are the integers within it, strictly rising.
 -- Each law of the order goes by the signs; a range is counted up from its low end by `up`.
-use mathlib.Core.Path.{_≡_, refl, sym, ap, _∙_, subst}
+use mathlib.Core.Path.{_≡_, refl, sym, ap, _∙_}
 use mathlib.Core.Logic.{_⊎_, inl, inr}
-use mathlib.Core.Bool.{Bool, true, false, cond, _&&_}
+use mathlib.Core.Bool.{Bool, true, false, cond}
 use mathlib.Core.List.{List, [], _∷_, List·Memᴰ, List·Memᴰ·head, List·Memᴰ·tail, List·Memᴰ·not-nil}
-use Prim.Native.Nat.{ℕ, zero, suc, _+_, _-_, _≤_, _<_}
-use native.Mathlib.Nat.{eq-or-lt-of-le}
+use Prim.Native.Nat.{ℕ, zero, suc, _-_, _<_}
 use native.Mathlib.Omega.{arith}
-use borrow.Author.Tests.{ltb-true, ltb-false, leb-true, leb-false, lt-ltb, le-leb, lt-leb, le-ltb}
+use borrow.Author.Tests.{ltb-true, ltb-false, leb-true, lt-ltb, le-leb}
 use lib.Dec.{leb, ltb, T}
-use lib.IntN.{ℤ, pos, negsuc, sucℤ, natAbs, negℤ, subℕ, _+ℤ_, _-ℤ_, +ℤ-comm, -ℤ-+ℤ-cancel, sucℤ-+ℤ, +ℤ-sucℤ, +ℤ-idr}
+use lib.IntN.{ℤ, pos, negsuc, sucℤ, natAbs, _+ℤ_, _-ℤ_, +ℤ-comm, -ℤ-+ℤ-cancel, sucℤ-+ℤ, +ℤ-sucℤ, +ℤ-idr}
 use lib.Signed.{ltZ, leZ, nonNeg, pos-natAbs}
 use Rattle.semantics.specs.Lists.{Every}
 use Rattle.semantics.specs.Word.{Range, within}

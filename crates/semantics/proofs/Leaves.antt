@@ -5,7 +5,7 @@
 -- of `Laws` are used.
 use mathlib.Core.Path.{_≡_, refl, sym, ap, _∙_, subst, fun-ext}
 use mathlib.Core.Logic.{_⊎_, inl, inr}
-use mathlib.Core.Bool.{Bool, true, false, not, cond, _&&_, _||_}
+use mathlib.Core.Bool.{Bool, true, false, cond, _||_}
 use mathlib.Core.List.{List, [], _∷_, _++_, map, List·Memᴰ, List·Memᴰ·head, List·Memᴰ·tail, List·Memᴰ·not-nil, List·Memᴰ·cases-cons, List·Memᴰ·eq-of-singleton, Memᴰ·append-left, Memᴰ·append-right, List·Memᴰ·append-cases, Memᴰ·map, Memᴰ·of-map, Memᴰ·cast}
 use mathlib.Core.Option.{Option, none, some, bind}
 use Prim.Native.Nat.{ℕ, zero, suc, _≤_, _<_}
@@ -13,22 +13,22 @@ use native.Mathlib.Omega.{arith}
 use borrow.Author.Tests.{eqb-true, le-leb}
 use lib.Dec.{eqb, leb}
 use lib.IntN.{ℤ, pos}
-use lib.ListN.{length, getElem?, set, replicate, length-set, length-replicate}
+use lib.ListN.{length, getElem?, set, length-set, length-replicate}
 use Rattle.semantics.specs.Word.{Range, within}
 use Rattle.semantics.specs.Expression.{Expression, constant, variable, binary, load, value, valuesOf, bound}
 use Rattle.semantics.specs.Net.{Arc, equal, Conjunct, Sort, match, solve, range, Element, Transition, Net, rangesAt}
-use Rattle.semantics.specs.Order.{sameInteger, inRanges, tuples, valuesOfRange}
+use Rattle.semantics.specs.Order.{sameInteger, inRanges, valuesOfRange}
 use Rattle.semantics.specs.Plan.{loneUnbound, Solution, solution, newlyBound, member, planFault}
 use Rattle.semantics.specs.Marking.{Counts, Proper}
 use Rattle.semantics.specs.Enabling.{Enabled}
-use Rattle.semantics.specs.Tries.{Partial, empty, partly, present, isBoundIn, coloursOn, bindNew, agree, matched, matchTries, solved, solveTries, rangeTries, tries, gather, leavesFrom, leaves}
-use Rattle.semantics.proofs.Tests.{false-true, either, and-both, not-both, same-test, or-cases, or-left, or-right, cond-true, cond-false, integer-same, integer-refl, select-in}
+use Rattle.semantics.specs.Tries.{Partial, empty, partly, present, isBoundIn, coloursOn, bindNew, agree, matched, solved, tries, gather, leavesFrom, leaves}
+use Rattle.semantics.proofs.Tests.{false-true, either, and-both, not-both, or-cases, or-right, cond-true, cond-false, integer-refl, select-in}
 use Rattle.semantics.proofs.Enabling.{enabled-marks, enabled-equal}
 use Rattle.semantics.proofs.Integers.{range-within, within-range}
 use Rattle.semantics.proofs.Tuples.{in-tuples}
 use Rattle.semantics.proofs.Members.{none-some, at-length, length-at, at-member}
 use Rattle.semantics.proofs.Partial.{nothing-at, member-append, everyBelow-at, range-length, range-at, bound-set, set-cases, present-some, Agrees, agrees-set, agrees-empty, value-agrees, agrees-full}
-use Rattle.semantics.proofs.Fitness.{FitMatch, fit-match, Solves, solution-solves, FitSolve, fit-solve, FitRange, fit-range, Fit, plan-fit, plan-full}
+use Rattle.semantics.proofs.Fitness.{fit-match, Solves, solution-solves, fit-solve, fit-range, plan-fit, plan-full}
 
 -- the two laws of an enabled binding that the search rests on
 pub record Laws (table : List ℕ) (t : Transition) (m : Counts) (b : List ℤ) : Type 0 where

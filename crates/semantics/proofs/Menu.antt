@@ -2,11 +2,11 @@
 -- members is the menu. T4, first half: the enabled leaves of the plan, sorted and without repeats, are the menu.
 -- They answer demand 3: each enabled binding exactly once and no other, by rising variable 0, then 1 and on.
 -- The idea: all tuples of the ranges rise and are the tuples in range; keeping the enabled ones keeps both; a rising list is known by its members.
-use mathlib.Core.Path.{_≡_, refl, sym, ap, _∙_, subst}
+use mathlib.Core.Path.{_≡_, refl, sym, ap}
 use mathlib.Core.Logic.{_⊎_, inl, inr, _↔_}
-use mathlib.Core.Bool.{Bool, true, false}
+use mathlib.Core.Bool.{true}
 use mathlib.Core.List.{List, [], _∷_, map, List·Memᴰ, List·Memᴰ·not-nil, Memᴰ·map, Memᴰ·of-map, Memᴰ·cast}
-use mathlib.Core.Option.{Option, none, some}
+use mathlib.Core.Option.{none, some}
 use Prim.Native.Nat.{ℕ}
 use lib.IntN.{ℤ}
 use Rattle.semantics.specs.Lists.{select}

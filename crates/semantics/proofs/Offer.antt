@@ -1,18 +1,17 @@
 -- When a menu is offered: the budget covers its tries and it fits, and then it is the whole menu with its W.
 -- The two tests of `offer` are taken apart in their order, 10 before 11.
-use mathlib.Core.Path.{_≡_, refl, sym, ap, _∙_}
+use mathlib.Core.Path.{_≡_}
 use mathlib.Core.Logic.{_⊎_, inl, inr}
-use mathlib.Core.Bool.{Bool, true, false, cond}
+use mathlib.Core.Bool.{true, false}
 use mathlib.Core.List.{List}
 use Prim.Native.Nat.{ℕ}
 use native.Mathlib.Omega.{arith}
 use lib.Dec.{leb}
 use lib.IntN.{ℤ}
-use Rattle.semantics.specs.Refusal.{overBudget, overMenu}
 use Rattle.semantics.specs.Net.{Transition, Net}
 use Rattle.semantics.specs.Marking.{Counts}
 use Rattle.semantics.specs.Tries.{allTries}
-use Rattle.semantics.specs.Run.{menu, Offer, offered, withheld, menuFits, offer}
+use Rattle.semantics.specs.Run.{menu, offered, withheld, menuFits, offer}
 use Rattle.semantics.proofs.Tests.{either}
 
 module _ (table : List ℕ) (net : Net) (budget room : ℕ) (t : Transition) (m : Counts) where

@@ -1,26 +1,25 @@
 -- Partial bindings: what setting a variable does, which variables are bound, and when an expression has its value already.
 -- A partial binding agrees with a full one where it has the same values; it tracks the variables that a plan has bound so far.
-use mathlib.Core.Path.{_≡_, refl, sym, ap, _∙_, subst, fun-ext}
+use mathlib.Core.Path.{_≡_, refl, sym, ap, _∙_}
 use mathlib.Core.Logic.{_⊎_, inl, inr}
-use mathlib.Core.Bool.{Bool, true, false, not, cond, _&&_, _||_}
-use mathlib.Core.List.{List, [], _∷_, _++_, map, List·Memᴰ, List·Memᴰ·head, List·Memᴰ·tail}
-use mathlib.Core.Option.{Option, none, some, bind}
-use Prim.Native.Nat.{ℕ, zero, suc, _+_, _≤_, _<_}
+use mathlib.Core.Bool.{Bool, true, false, _||_}
+use mathlib.Core.List.{List, [], _∷_, _++_, map}
+use mathlib.Core.Option.{Option, none, some}
+use Prim.Native.Nat.{ℕ, zero, suc, _<_}
 use native.Mathlib.Omega.{arith}
-use native.Mathlib.Nat.{le-of-suc-le-suc, not-suc-le-zero}
-use borrow.Author.Tests.{eqb-true, eqb-false, eq-eqb}
-use lib.Dec.{eqb, ltb}
+use native.Mathlib.Nat.{not-suc-le-zero}
+use borrow.Author.Tests.{eqb-true, eqb-false}
+use lib.Dec.{eqb}
 use lib.IntN.{ℤ}
-use lib.ListN.{length, getD, getElem?, set, replicate, length-set}
+use lib.ListN.{length, getD, getElem?, set, replicate}
 use lib.Seq.{getD-set-same, getD-set-other}
 use Rattle.semantics.specs.Word.{Range, within}
-use Rattle.semantics.specs.Expression.{Expression, constant, variable, binary, load, value, bound, everyVariable, operate, loadOf}
-use Rattle.semantics.specs.Net.{Transition}
+use Rattle.semantics.specs.Expression.{Expression, constant, variable, binary, load, value, bound, everyVariable}
 use Rattle.semantics.specs.Order.{inRanges}
 use Rattle.semantics.specs.Plan.{member, everyBelow}
 use Rattle.semantics.specs.Tries.{Partial, partly, present, isBoundIn}
 use Rattle.semantics.proofs.Members.{none-some}
-use Rattle.semantics.proofs.Tests.{false-true, either, and-left, and-right, not-both, same-test, or-cases, or-left, or-right}
+use Rattle.semantics.proofs.Tests.{false-true, either, and-left, and-right}
 
 -- ── Variables bound so far ──
 

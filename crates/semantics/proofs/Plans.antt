@@ -1,27 +1,26 @@
 -- T4, second half: two accepted nets that differ only in elements and E have the same menus, and the menu call on them, where neither is
 -- refused, answers the same N and leaves the same words in equal buffers. It answers demand 3: one list for all plans.
 -- The idea: enabling, menus and the reading of markings look at a net with its positions and plans set aside alone.
-use mathlib.Core.Path.{_≡_, refl, sym, ap, _∙_, subst}
-use mathlib.Core.Bool.{Bool, true, false, cond, _&&_}
+use mathlib.Core.Path.{_≡_, refl, sym, ap, _∙_}
+use mathlib.Core.Bool.{Bool, _&&_}
 use mathlib.Core.List.{List, [], _∷_, map, flatMap}
 use mathlib.Core.Option.{Option, none, some, bind, Option·map}
 use Prim.Native.Nat.{ℕ, zero, suc}
 use native.Mathlib.Omega.{arith}
 use lib.IntN.{ℤ}
-use lib.ListN.{length, getD, getElem?, length-map}
-use Rattle.semantics.specs.declared.Listed.{Listed}
+use lib.ListN.{length, getElem?, length-map}
 use Rattle.semantics.specs.declared.Listed.the-variants.{Found, Refused as MenuRefused}
 use Rattle.semantics.specs.Lists.{every, select}
 use Rattle.semantics.specs.Word.{Range, valueWord}
 use Rattle.semantics.specs.Expression.{Environment, houseTable, bound}
-use Rattle.semantics.specs.Reading.{Reading, read, refused, then}
-use Rattle.semantics.specs.Net.{Place, Arc, Conjunct, Transition, Net, rangesAt, barePlace, bareArc, bareConjunct, bareTransition, bareNet, DifferInPlans}
+use Rattle.semantics.specs.Reading.{Reading, read, refused}
+use Rattle.semantics.specs.Net.{Place, Arc, Conjunct, Transition, Net, barePlace, bareArc, bareConjunct, bareTransition, bareNet, DifferInPlans}
 use Rattle.semantics.specs.Order.{tuples}
 use Rattle.semantics.specs.Plan.{acceptNet}
 use Rattle.semantics.specs.Marking.{Entry, Counts, readEntry, readEntries, readMarking, countsOf}
-use Rattle.semantics.specs.Enabling.{Flow, holds, flow, flows, coversAll, isEnabled}
+use Rattle.semantics.specs.Enabling.{Flow, holds, flow, flows, isEnabled}
 use Rattle.semantics.specs.Run.{menu, Offer, offered, withheld, offer}
-use Rattle.semantics.specs.Calls.{written, existing, Situation, situation, listedBy, listedIn, menuCall}
+use Rattle.semantics.specs.Calls.{written, situation, menuCall}
 use Rattle.semantics.proofs.Members.{map-at}
 use Rattle.semantics.proofs.Offer.{Made, offer-made}
 

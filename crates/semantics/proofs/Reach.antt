@@ -5,31 +5,31 @@
 -- It holds for every k, and so for every k with 4k below 2^63.
 use mathlib.Core.Path.{_≡_, refl, sym, ap, _∙_, subst}
 use mathlib.Core.Logic.{_⊎_, inl, inr, _↔_}
-use mathlib.Core.Bool.{Bool, true, false, cond, not, _&&_}
-use mathlib.Core.List.{List, [], _∷_, _++_, map, List·Memᴰ, List·Memᴰ·head, List·Memᴰ·tail, List·Memᴰ·not-nil, List·Memᴰ·cases-cons}
+use mathlib.Core.Bool.{Bool, true, false, not, _&&_}
+use mathlib.Core.List.{List, [], _∷_, _++_, List·Memᴰ, List·Memᴰ·head, List·Memᴰ·tail, List·Memᴰ·not-nil, List·Memᴰ·cases-cons}
 use mathlib.Core.Option.{Option, none, some}
-use Prim.Native.Nat.{ℕ, zero, suc, _+_, _*_, _-_, _/_, _%_, _^_, _≤_, _<_}
+use Prim.Native.Nat.{ℕ, zero, suc, _+_, _*_, _-_, _^_, _≤_, _<_}
 use native.Mathlib.Omega.{arith}
 use native.Mathlib.Nat.{zero-add, add-zero}
-use borrow.Author.Tests.{leb-true, le-leb, lt-ltb, eq-eqb, ltb-true, lt-leb}
-use lib.Dec.{leb, ltb, eqb}
+use borrow.Author.Tests.{leb-true, le-leb, lt-ltb, eq-eqb, lt-leb}
+use lib.Dec.{leb, eqb}
 use lib.IntN.{ℤ}
-use lib.ListN.{length, getD, getElem?, take, replicate}
+use lib.ListN.{length, getElem?, take, replicate}
 use lib.Seq.{take-at}
 use Rattle.semantics.specs.Refusal.{mostWords, mostBindings, overRoom, badMarking, noTransition, badPick}
 use Rattle.semantics.specs.Lists.{Every}
-use Rattle.semantics.specs.Word.{Range, kind, payload, bits, only}
+use Rattle.semantics.specs.Word.{kind, payload, only}
 use Rattle.semantics.specs.Expression.{houseTable}
-use Rattle.semantics.specs.Reading.{Reading, read, refused, then}
+use Rattle.semantics.specs.Reading.{read}
 use Rattle.semantics.specs.Net.{Place, Arc, Transition, Net, rangesAt}
 use Rattle.semantics.specs.Plan.{acceptNet}
 use Rattle.semantics.specs.Marking.{Entry, Counts, Proper, readMarking, countsOf, markingWords, isPick, pickTransition, pickIndex, firstThat, firstUnknown, firstMalformed}
-use Rattle.semantics.specs.Enabling.{Firing, moved, stopped, occur, effect, Step}
+use Rattle.semantics.specs.Enabling.{Firing, moved, stopped, occur}
 use Rattle.semantics.specs.Tries.{allTries}
-use Rattle.semantics.specs.Run.{menu, Offer, offered, withheld, menuFits, offer, hasRoom, roomed, fire, Limits, fireAt, pickFrom, pickOf, pick, End, goOn, plainRun}
-use Rattle.semantics.specs.Calls.{RunEnd, Start, markingIn, refusedAt, start, ranTo, limits, ranFrom, runCall, zeroed}
+use Rattle.semantics.specs.Run.{menu, Offer, offered, withheld, offer, hasRoom, roomed, fire, Limits, fireAt, pickFrom, pickOf, pick, End, plainRun}
+use Rattle.semantics.specs.Calls.{RunEnd, Start, markingIn, start, ranTo, limits, runCall, zeroed}
 use Rattle.semantics.specs.Reach.{StepWithin, OccurrenceSequence, stay, occurs, Ends}
-use Rattle.semantics.proofs.Tests.{false-true, either, and-left, and-right, and-both, cond-true, cond-false, Every-at}
+use Rattle.semantics.proofs.Tests.{either, and-left, and-right, and-both, cond-true, cond-false, Every-at}
 use Rattle.semantics.proofs.Members.{at-length, at-member, member-at}
 use Rattle.semantics.proofs.Accepted.{Valued, SoundPlace, SoundArc, SoundTransition, SoundNet, accepted-sound}
 use Rattle.semantics.proofs.Step.{step-occurs, occurs-step}
@@ -37,7 +37,7 @@ use Rattle.semantics.proofs.Menu.{menu-members}
 use Rattle.semantics.proofs.Offer.{Made, offer-made, made-offer}
 use Rattle.semantics.proofs.Spans.{refused-read, Narrow}
 use Rattle.semantics.proofs.Markings.{marking-words, marking-proper, marking-short, words-marking, step-proper}
-use Rattle.semantics.proofs.Run.{Numbered, pick-numbered, run-fired}
+use Rattle.semantics.proofs.Run.{Numbered, pick-numbered}
 
 -- ── Accepted nets ──
 

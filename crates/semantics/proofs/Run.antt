@@ -1,11 +1,11 @@
 -- The plain run as one claim over its whole list of picks: a run of p ++ q is the run of p and then, where none was refused, the run of q
 -- from where it ended; a refused pick ends the run. It answers demand 3's reach: no pick is looked at by itself.
 -- The idea: a run goes on by its first pick alone, and a refusal has a number that is not 0.
-use mathlib.Core.Path.{_≡_, refl, sym, ap, _∙_}
+use mathlib.Core.Path.{_≡_, refl, sym, ap}
 use mathlib.Core.Bool.{Bool, true, false, cond}
 use mathlib.Core.List.{List, [], _∷_, _++_}
 use mathlib.Core.Option.{Option, none, some}
-use Prim.Native.Nat.{ℕ, zero, suc, _+_, _≤_}
+use Prim.Native.Nat.{ℕ, _+_, _≤_}
 use native.Mathlib.Omega.{arith}
 use borrow.Author.Tests.{ne-eqb}
 use lib.Dec.{eqb, leb}
@@ -16,7 +16,7 @@ use Rattle.semantics.specs.Net.{Transition, Net}
 use Rattle.semantics.specs.Marking.{Counts, pickTransition, pickIndex}
 use Rattle.semantics.specs.Enabling.{Firing, moved, stopped, occur}
 use Rattle.semantics.specs.Tries.{allTries}
-use Rattle.semantics.specs.Run.{menu, Offer, offered, withheld, menuFits, offer, hasRoom, roomed, fire, Limits, fireAt, pickFrom, pickOf, pick, End, goOn, plainRun}
+use Rattle.semantics.specs.Run.{menu, offered, withheld, menuFits, offer, hasRoom, roomed, fire, Limits, fireAt, pickFrom, pickOf, pick, End, goOn, plainRun}
 use Rattle.semantics.proofs.Step.{Occurrence, blocked, undelivered, overfull, stepped, occur-cases}
 
 -- ── A refusal is not 0 ──

@@ -3,7 +3,7 @@
 -- proofs/Step.antt for steps at counts of at most 16,383, which every marking has.
 -- Rests on Net, Order and Marking.
 use mathlib.Core.Path.{_≡_}
-use Prim.Native.Nat.{ℕ, zero, suc, _+_, _-_, _≤_}
+use Prim.Native.Nat.{ℕ, _+_, _-_, _≤_}
 use mathlib.Core.Bool.{Bool, true, false, cond, not, _&&_, _||_}
 use mathlib.Core.List.{List, [], _∷_}
 use mathlib.Core.Option.{Option, none, some, bind}
@@ -13,7 +13,7 @@ use lib.Signed.{ltZ, leZ, _<ℤ_, _≤ℤ_}
 use Rattle.semantics.specs.Refusal.{notEnabled, badOutput, overCount, mostCount}
 use Rattle.semantics.specs.Lists.{Every, every}
 use Rattle.semantics.specs.Expression.{Environment, value, valuesOf, bound}
-use Rattle.semantics.specs.Net.{Place, Arc, Relation, equal, unequal, less, atMost, Conjunct, Transition, Net, rangesAt}
+use Rattle.semantics.specs.Net.{Arc, Relation, equal, unequal, less, atMost, Conjunct, Transition, Net, rangesAt}
 use Rattle.semantics.specs.Order.{sameInteger, sameTuple, inRanges}
 use Rattle.semantics.specs.Marking.{Counts}
 

@@ -2,15 +2,15 @@
 -- Rests on Reading, Net and Order.
 use mathlib.Core.Path.{_≡_}
 use Prim.Native.Nat.{ℕ, zero, suc, _+_, _≤_, _<_}
-use mathlib.Core.Bool.{Bool, true, false, cond, not, _&&_}
+use mathlib.Core.Bool.{Bool, true, cond, not, _&&_}
 use mathlib.Core.List.{List, [], _∷_, _++_, map, flatMap}
 use mathlib.Core.Option.{Option, none, some}
 use lib.Dec.{leb, ltb, eqb}
 use lib.IntN.{ℤ, pos}
 use lib.ListN.{length}
 use Rattle.semantics.specs.Refusal.{badMarking, badBinding, mostCount}
-use Rattle.semantics.specs.Word.{kind, payload, bits, only, Range, tokenWord, valueWord}
-use Rattle.semantics.specs.Reading.{Reading, read, refused, then, Reader, _>>=_, give, here, demand, word, valuesIn, ended, numbered}
+use Rattle.semantics.specs.Word.{kind, payload, bits, only, tokenWord, valueWord}
+use Rattle.semantics.specs.Reading.{Reading, read, then, Reader, _>>=_, give, demand, word, valuesIn, ended, numbered}
 use Rattle.semantics.specs.Net.{Place, Transition, Net, rangesAt}
 use Rattle.semantics.specs.Order.{sameTuple, before, tuples, inRanges}
 

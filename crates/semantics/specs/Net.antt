@@ -1,9 +1,8 @@
 -- 01, "Words": what a net is, as data. Each structure holds the position of its first word.
 -- Rests on Word and Expression.
 use mathlib.Core.Path.{_≡_}
-use Prim.Native.Nat.{ℕ, zero, suc}
-use mathlib.Core.List.{List, [], _∷_, map}
-use lib.IntN.{ℤ}
+use Prim.Native.Nat.{ℕ}
+use mathlib.Core.List.{List, [], map}
 use lib.ListN.{getD}
 use Rattle.semantics.specs.Word.{Range}
 use Rattle.semantics.specs.Expression.{Expression}

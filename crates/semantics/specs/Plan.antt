@@ -6,9 +6,8 @@ use mathlib.Core.List.{List, [], _∷_, _++_}
 use mathlib.Core.Option.{Option, none, some}
 use lib.Dec.{leb, ltb, eqb}
 use lib.ListN.{length, getElem?}
-use lib.IntN.{ℤ, pos, negsuc}
+use lib.IntN.{pos, negsuc}
 use Rattle.semantics.specs.Refusal.{wordsLeft, unfitPlan}
-use Rattle.semantics.specs.Word.{Range}
 use Rattle.semantics.specs.Expression.{Expression, constant, variable, binary, load, everyVariable}
 use Rattle.semantics.specs.Reading.{Reading, read, refused, then}
 use Rattle.semantics.specs.Net.{Arc, Relation, equal, unequal, less, atMost, Conjunct, Sort, match, solve, range, Element, Transition, Net}

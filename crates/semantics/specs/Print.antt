@@ -1,7 +1,7 @@
 -- 01, "The printed menu": the bytes that the program writes for the bytes that it reads.
 -- Rests on Calls.
-use Prim.Native.Nat.{ℕ, zero, suc, _+_, _/_, _%_, _^_}
-use mathlib.Core.Bool.{Bool, true, false, cond}
+use Prim.Native.Nat.{ℕ, zero, suc, _+_, _/_, _%_}
+use mathlib.Core.Bool.{cond}
 use mathlib.Core.List.{List, [], _∷_, _++_, flatMap}
 use lib.Dec.{leb, ltb}
 use lib.IntN.{ℤ, pos, negsuc}

@@ -1,10 +1,10 @@
 -- 01, "Calls" and "The plain run": the menu, refusals 10 to 12 and 16, and the plain run on counts.
 -- Rests on Enabling and Tries.
-use Prim.Native.Nat.{ℕ, zero, suc, _+_, _*_}
-use mathlib.Core.Bool.{Bool, true, false, cond, _&&_, _||_}
+use Prim.Native.Nat.{ℕ, _+_, _*_}
+use mathlib.Core.Bool.{Bool, cond, _&&_}
 use mathlib.Core.List.{List, [], _∷_}
 use mathlib.Core.Option.{Option, none, some}
-use lib.Dec.{leb, ltb}
+use lib.Dec.{leb}
 use lib.IntN.{ℤ}
 use lib.ListN.{length, getElem?}
 use Rattle.semantics.specs.Refusal.{overBudget, overMenu, noSuchIndex, overRoom, noTransition, mostWords, mostBindings}

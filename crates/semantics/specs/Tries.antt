@@ -1,7 +1,7 @@
 -- 01, "Plans and tries": partial bindings, the tries of an element, and of a plan its leaves and its count of tries, W.
 -- Rests on Plan, Order and Marking.
-use Prim.Native.Nat.{ℕ, zero, suc, _+_}
-use mathlib.Core.Bool.{Bool, true, false, cond, _&&_}
+use Prim.Native.Nat.{ℕ, suc, _+_}
+use mathlib.Core.Bool.{Bool, true, false, cond}
 use mathlib.Core.List.{List, [], _∷_, _++_, map}
 use mathlib.Core.Option.{Option, none, some, bind, Option·getD}
 use lib.Dec.{leb}
@@ -10,7 +10,7 @@ use lib.ListN.{length, getD, getElem?, set, replicate}
 use Rattle.semantics.specs.Lists.{select}
 use Rattle.semantics.specs.Word.{Range, within}
 use Rattle.semantics.specs.Expression.{Environment, Expression, constant, variable, binary, load, value}
-use Rattle.semantics.specs.Net.{Place, Arc, Conjunct, Sort, match, solve, range, Element, Transition, Net, rangesAt}
+use Rattle.semantics.specs.Net.{Arc, Conjunct, Sort, match, solve, range, Element, Transition, Net, rangesAt}
 use Rattle.semantics.specs.Order.{sameInteger, valuesOfRange, tuples}
 use Rattle.semantics.specs.Plan.{Solution, solution}
 use Rattle.semantics.specs.Marking.{Counts}

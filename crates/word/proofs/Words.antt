@@ -1,16 +1,13 @@
 -- Fields and remainders: bits from 0 on, the two halves of the 14 bits of a value, and the remainder of Euclid.
 -- What written words read as stands in semantics/proofs/Words.
 use mathlib.Core.Path.{_≡_, refl, sym, ap, _∙_}
-use mathlib.Core.Bool.{true, false}
-use mathlib.Core.Logic.{_⊎_, inl, inr}
 use Prim.Native.Nat.{ℕ, zero, suc, _+_, _*_, _-_, _/_, _%_, _^_, _≤_, _<_}
 use native.Mathlib.Nat.{mod-lt, div-add-mod', suc-mul}
 use native.Mathlib.Omega.{arith}
 use lib.Dec.{ltb}
 use lib.IntN.{ℤ, pos, negsuc, negℤ, _+ℤ_, _*ℤ_}
-use lib.Signed.{mag}
-use borrow.Author.Tests.{ltb-true, ltb-false, lt-ltb, le-ltb}
-use Rattle.semantics.proofs.Tests.{either, cond-true, cond-false}
+use borrow.Author.Tests.{lt-ltb, le-ltb}
+use Rattle.semantics.proofs.Tests.{cond-true, cond-false}
 use Rattle.semantics.specs.Word.{bits, signed, modulo}
 
 -- ── Fields ──

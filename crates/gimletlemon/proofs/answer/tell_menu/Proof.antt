@@ -1,5 +1,5 @@
 -- `gimletlemon::answer::tell_menu` meets its contract: by the cases of the answer.
-use mathlib.Core.Path.{_≡_, sym, ap}
+use mathlib.Core.Path.{sym, ap}
 use borrow.Author.Needs.{needs}
 use Rattle.semantics.specs.Answer.{menuRefusal, menuBindings, menuTries}
 use Rattle.gimletlemon.proofs.answer.tell_menu.Statement.{statement}

@@ -1,6 +1,5 @@
 -- `search::menu::clear` meets its contract: the loop keeps `Cleared`.
 use Prim.Native.Nat.{_-_}
-use native.Mathlib.Omega.{arith}
 use borrow.Author.Needs.{needs}
 use lib.ListN.{length}
 use Rattle.search.proofs.Clearing.{Cleared, cleared-start, cleared-turn, cleared-end}

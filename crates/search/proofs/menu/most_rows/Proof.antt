@@ -1,7 +1,5 @@
 -- `search::menu::most_rows` meets its contract: by the test of the width.
-use mathlib.Core.Path.{_≡_, _∙_}
 use borrow.Author.Needs.{needs}
-use borrow.Author.Tests.{eq-eqb, ne-eqb}
 use Rattle.search.proofs.Listing.{most-none, most-some}
 use Rattle.search.proofs.menu.most_rows.Statement.{statement}
 use Rattle.search.proofs.menu.most_rows.Tie as tie

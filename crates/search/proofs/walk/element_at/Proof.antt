@@ -1,8 +1,7 @@
 -- `search::walk::element_at` meets its contract: the 28 bits of the word there.
-use mathlib.Core.Path.{_≡_, ap, _∙_}
+use mathlib.Core.Path.{ap, _∙_}
 use Prim.Native.Nat.{ℕ}
 use borrow.Author.Needs.{needs}
-use Rattle.semantics.specs.Net.{Sort}
 use Rattle.semantics.specs.Word.{bits}
 use Rattle.semantics.specs.ReadNet.{sortOf}
 use Rattle.search.proofs.walk.element_at.Statement.{statement}
