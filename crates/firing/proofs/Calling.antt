@@ -1,27 +1,24 @@
 -- The rules of the call fire: what the situation and the binding say; where both are accepted, they are what firing starts from.
-use mathlib.Core.Path.{_≡_, refl, sym, ap, _∙_}
+use mathlib.Core.Path.{_≡_, ap}
 use Prim.Native.Nat.{ℕ, _+_, _<_}
 use mathlib.Core.List.{List, [], _∷_}
-use lib.IntN.{ℤ}
 use lib.ListN.{length, take}
 use Rattle.semantics.specs.declared.Fired.{Fired}
-use Rattle.semantics.specs.declared.Fired.the-variants.{Written, Refused as FireRefused}
+use Rattle.semantics.specs.declared.Fired.the-variants.{Refused as FireRefused}
 use Rattle.semantics.specs.Lists.{Every}
-use Rattle.semantics.specs.Expression.{houseTable}
-use Rattle.semantics.specs.Reading.{read}
 use Rattle.semantics.specs.Net.{Place, Arc}
-use Rattle.semantics.specs.Marking.{readBinding}
 use Rattle.semantics.specs.Calls.{fireCall}
 use Rattle.semantics.proofs.Accepted.{SoundArc, transition-sound}
 use Rattle.expression.specs.declared.read.Skipped.{Skipped}
 use Rattle.expression.specs.declared.read.Skipped.the-variants.{Next, Refused}
 use Rattle.expression.specs.Skip.{forget, skipped}
+use Rattle.net.specs.Skim.{Outline}
 use Rattle.net.specs.Places.{rangesFrom}
 use Rattle.marking.specs.Marked.{bindingRead}
 use Rattle.occurrence.specs.declared.situation.Situation.{Situation}
 use Rattle.occurrence.specs.Situation.{Prepared, IsSituation}
 use Rattle.occurrence.proofs.Testing.{unbound-refused, bound-read, bound-length, bound-lent}
-use Rattle.firing.specs.Fire.{Fireable, fireEnd, IsFired}
+use Rattle.firing.specs.Fire.{FireableAt, Fireable, fireEnd, IsFiredAt, IsFired}
 
 pub fire-refused : (ws : List ℕ) (t : ℕ) (ms bs buffer : List ℕ) {s : Situation} {n p : ℕ} → IsSituation ws t ms s → s .end ≡ Refused n p → fireEnd (FireRefused n p) buffer ≡ fireCall ws t ms bs buffer
 unfolding fireCall
@@ -48,7 +45,9 @@ module _ {ws : List ℕ} {t : ℕ} {ms : List ℕ} {s : Situation} (p : Prepared
       binding = bound-read p bs r x e .0;
       placed = p .placed;
       there = p .there;
-      outlines = p .outlines;
+      guard-at = ap (λ (o : Outline). o .guard) (p .outlines);
+      inputs-at = ap (λ (o : Outline). o .inputs) (p .outlines);
+      outputs-at = ap (λ (o : Outline). o .outputs) (p .outlines);
       outputs = placed-arcs (p .net .places) (length (p .transition .variables)) (p .transition .outputs) (transition-sound ws (p .net .places) (s .position) (p .transition) (p .after) (p .there) .outputs);
       marked = p .marked;
       begun = p .begins;
@@ -59,3 +58,11 @@ module _ {ws : List ℕ} {t : ℕ} {ms : List ℕ} {s : Situation} (p : Prepared
     pub fire-answers : {f : Fired} {buffer after : List ℕ} → IsFired ws (take (s .places) (s .«places_at»)) (s .transition) ms (s .begins) bs buffer f after → fireEnd f after ≡ fireCall ws t ms bs buffer
     unfolding fireCall fireable
     fire-answers g = rw (p .same, bound-read p bs r x e .1) (g .fired fireable)
+
+-- at other positions that are the same
+module _ {ws ps gs is os ms begins bs gs′ is′ os′ : List ℕ} (e : gs ≡ gs′) (f : is ≡ is′) (g : os ≡ os′) where
+  pub fireable-same : FireableAt ws ps gs′ is′ os′ ms begins bs → FireableAt ws ps gs is os ms begins bs
+  fireable-same q = rw (e, f, g) q
+
+  pub fired-same : {buffer : List ℕ} {r : Fired} {after : List ℕ} → IsFiredAt ws ps gs is os ms begins bs buffer r after → IsFiredAt ws ps gs′ is′ os′ ms begins bs buffer r after
+  fired-same x = rw (← e, ← f, ← g) x

@@ -1,212 +1,193 @@
--- The rules of firing: each return is told by the definition of the call. What is taken and delivered are the flows of the transition; the
--- changes told from them lead to the counts after the step, so the words that are written are the words of these counts.
-use mathlib.Core.Path.{_≡_, refl, sym, ap, _∙_, subst}
+-- The rules of firing: each return is told by the definition of the call. What is taken and made, gathered as keys, are the flows of the transition
+-- that move something; so the counts after are those of the definition, and are within the limit just where it says so.
+use mathlib.Core.Path.{_≡_, refl, sym, ap, _∙_, subst, fun-ext}
 use mathlib.Core.Logic.{_⊎_, inl, inr}
-use Prim.Native.Nat.{ℕ, _+_, _≤_, _<_}
-use mathlib.Core.Bool.{Bool, true, false, cond, not, _&&_}
-use mathlib.Core.List.{List, [], _∷_, _++_}
+use Prim.Native.Nat.{ℕ, _≤_, _<_}
+use mathlib.Core.Bool.{Bool, true, false, cond, not}
+use mathlib.Core.List.{List, [], _∷_, _++_, List·Memᴰ, Memᴰ·append-right}
 use mathlib.Core.Option.{Option, none, some}
-use borrow.Author.Tests.{le-leb, lt-leb, not-true, not-false}
-use lib.ListN.{length, drop}
-use Rattle.semantics.specs.declared.Fired.the-variants.{Written, Refused as FireRefused}
-use Rattle.semantics.specs.Refusal.{notEnabled, badOutput, overCount, overRoom, mostWords}
-use Rattle.semantics.specs.Lists.{Every, every}
+use native.Mathlib.Omega.{arith}
+use borrow.Author.Tests.{le-leb, leb-true, not-true, not-false}
+use lib.IntN.{ℤ}
+use lib.ListN.{length, take}
+use lib.Seq.{length-take-le}
+use Rattle.semantics.specs.declared.Fired.{Fired}
+use Rattle.semantics.specs.declared.Fired.the-variants.{Refused as FireRefused}
+use Rattle.semantics.specs.Refusal.{mostCount, notEnabled, badOutput, overCount}
+use Rattle.semantics.specs.Lists.{every, select}
 use Rattle.semantics.specs.Expression.{houseTable, bound, given}
 use Rattle.semantics.specs.Net.{Arc}
-use Rattle.semantics.specs.Marking.{Counts, Proper, countsOf, markingWords}
-use Rattle.semantics.specs.Enabling.{Flow, effect, flows, isEnabled, fits, withinCounts, moved, stopped, occurBy, occur}
+use Rattle.semantics.specs.Marking.{Counts, Proper, countsOf}
+use Rattle.semantics.specs.Enabling.{Flow, effect, flows, isEnabled, fits, withinCounts, Firing, moved, stopped, occurBy, occur}
 use Rattle.semantics.specs.Run.{roomed, fire}
 use Rattle.semantics.specs.Calls.{firedBy}
-use Rattle.semantics.proofs.Tests.{false-true, either, and-right, and-both, Every-at, every-of}
+use Rattle.semantics.proofs.Tests.{either, same-test, Every-at, every-at, every-of}
+use Rattle.semantics.proofs.Enabling.{at-named}
 use Rattle.semantics.proofs.Markings.{step-proper}
-use Rattle.semantics.proofs.Step.{Limited, within-all, occurs-step}
+use Rattle.semantics.proofs.Step.{Limited, within-all, all-within, occurs-step}
 use Rattle.semantics.proofs.Members.{none-some}
-use Rattle.net.specs.declared.index.TransitionIndex.{TransitionIndex}
-use Rattle.net.specs.Skim.{Outline}
-use Rattle.net.specs.Index.{outlined}
-use Rattle.net.specs.Places.{PlacesFit}
 use Rattle.marking.proofs.Counted.{marking-counts}
-use Rattle.occurrence.specs.declared.flow.Flows.{Flows}
-use Rattle.occurrence.specs.Flow.{flowsAt}
-use Rattle.occurrence.specs.Answers.{flowsRead, flowsOf, Fitted, IsTaken}
-use Rattle.occurrence.proofs.Enabling.{flows-fitted}
+use Rattle.arcs.specs.declared.gather.Gathered.{Gathered}
+use Rattle.arcs.specs.Flow.{flowsAt}
+use Rattle.arcs.specs.Keys.{keyPlace, keyColour, keyFlows, fitsAt, moving, gatheredBy, IsGathered}
+use Rattle.arcs.proofs.Keyed.{total-moving, flow-keyed}
+use Rattle.occurrence.specs.Answers.{IsTaken}
 use Rattle.occurrence.proofs.Reading.{inputs-told, outputs-told, enabled-told}
-use Rattle.firing.specs.declared.change.Built.{Built}
-use Rattle.firing.specs.Patch.{patched, Changing, changesOf, Ready}
-use Rattle.firing.specs.Fit.{fitsAt, deliveredBy, IsGiven}
-use Rattle.firing.specs.Built.{within, BuiltFrom, IsBuilt}
-use Rattle.firing.specs.Fire.{Fireable, fireEnd}
-use Rattle.firing.proofs.Patched.{patched-words, patched-ordered}
-use Rattle.firing.proofs.Building.{untouched-same}
+use Rattle.firing.specs.Keys.{keysFrom}
+use Rattle.firing.specs.Fire.{FireableAt, fireEnd}
+use Rattle.firing.specs.Changes.{Keyed, Moves, after, within, Sees, Stepping, IsStep}
+use Rattle.firing.proofs.Sorted.{sort-in, keys-all}
 
-module _ {ws ps : List ℕ} {t : TransitionIndex} {ms begins bs : List ℕ} (q : Fireable ws ps t ms begins bs) where
+-- flows that were gathered
+record Gathers (ws ps : List ℕ) (o : Option (List Flow)) (ks as′ : List ℕ) : Type 0 where
+  flows-are : List Flow
+  told : o ≡ some flows-are
+  fit : every (fitsAt ws ps) flows-are ≡ true
+  moving-are : select moving flows-are ≡ keyFlows ws ps ks as′
+
+gathers : (ws ps : List ℕ) (o : Option (List Flow)) (ks as′ : List ℕ) → some (keyFlows ws ps ks as′) ≡ gatheredBy ws ps o → Gathers ws ps o ks as′
+gathers ws ps none ks as′ e = none-some (sym e)
+gathers ws ps (some fs) ks as′ e = by (either (every (fitsAt ws ps) fs))
+  where
+    by : (every (fitsAt ws ps) fs ≡ true) ⊎ (every (fitsAt ws ps) fs ≡ false) → Gathers ws ps (some fs) ks as′
+    by (inl h) =
+        let a : some (keyFlows ws ps ks as′) ≡ some (select moving fs) = e ∙ ap (λ (t : Bool). given t (select moving fs)) h in
+        let b : keyFlows ws ps ks as′ ≡ select moving fs = cc in
+        record { flows-are = fs; told = refl; fit = h; moving-are = sym b }
+    by (inr h) = none-some (sym (e ∙ ap (λ (t : Bool). given t (select moving fs)) h))
+
+-- keys that were gathered, with their amounts
+pub gathered-keyed : {ws ps bs ats : List ℕ} {r : Gathered} {keys amounts : List ℕ} → IsGathered ws ps bs ats r keys amounts → length keys ≡ 8 → length amounts ≡ 8 → Keyed ws ps (take (r .n) keys) (take (r .n) amounts)
+gathered-keyed {r = r} {keys = keys} {amounts = amounts} x k a =
+    let few = x .few in
+    let i = length-take-le (r .n) keys (omega arith) in
+    let j = length-take-le (r .n) amounts (omega arith) in
+    record { few = omega arith; same = j ∙ sym i; fit = x .fit }
+
+-- the effect of flows is that of the keys gathered from them
+effect-keys : (m : Counts) (ws ps : List ℕ) (fs gs : List Flow) (ik ia ok oa : List ℕ) → select moving fs ≡ keyFlows ws ps ik ia → select moving gs ≡ keyFlows ws ps ok oa → effect m fs gs ≡ effect m (keyFlows ws ps ik ia) (keyFlows ws ps ok oa)
+effect-keys m ws ps fs gs ik ia ok oa e f = fun-ext (λ p. fun-ext (λ c. rw (← e, ← f, total-moving fs p c, total-moving gs p c)))
+
+module _ {ws ps gs is os ms begins bs : List ℕ} (q : FireableAt ws ps gs is os ms begins bs) where
   -- ── The flows of the transition ──
 
-  inputs-are : flowsAt ws ps bs (outlined t .inputs) ≡ flows houseTable (bound (q .binding)) (q .transition .inputs)
+  inputs-are : flowsAt ws ps bs is ≡ flows houseTable (bound (q .binding)) (q .transition .inputs)
   inputs-are =
-      ap (flowsAt ws ps bs) (ap (λ (o : Outline). o .inputs) (q .outlines))
+      ap (flowsAt ws ps bs) (q .inputs-at)
       ∙ inputs-told ws bs (q .net .places) (q .at) (q .transition) (q .after) (q .there) (q .many) ps (q .placed)
       ∙ ap (λ e. flows houseTable e (q .transition .inputs)) (q .values)
 
-  outputs-are : flowsAt ws ps bs (outlined t .outputs) ≡ flows houseTable (bound (q .binding)) (q .transition .outputs)
+  outputs-are : flowsAt ws ps bs os ≡ flows houseTable (bound (q .binding)) (q .transition .outputs)
   outputs-are =
-      ap (flowsAt ws ps bs) (ap (λ (o : Outline). o .outputs) (q .outlines))
+      ap (flowsAt ws ps bs) (q .outputs-at)
       ∙ outputs-told ws bs (q .net .places) (q .at) (q .transition) (q .after) (q .there) (q .many) ps (q .placed)
       ∙ ap (λ e. flows houseTable e (q .transition .outputs)) (q .values)
 
-  counts : Counts
-  counts = countsOf (q .entries)
+  proper : Proper (q .net) (countsOf (q .entries))
+  proper = marking-counts (q .net) ms (q .entries) (q .end) (q .marked)
 
-  enabled-is : {r : Flows} → IsTaken ws ps (outlined t .guard) (outlined t .inputs) ms begins bs r → r .some ≡ isEnabled houseTable (q .transition) counts (q .binding)
-  unfolding counts
-  enabled-is i = enabled-told ws bs (q .net .places) (q .at) (q .transition) (q .after) (q .there) (q .many) ps (q .placed) (ap (λ (o : Outline). o .guard) (q .outlines)) (ap (λ (o : Outline). o .inputs) (q .outlines)) (q .entries) (q .end) (q .marked) (q .begun) (q .binding) (q .values) (i .enabled)
-
-  limited : Limited counts
-  unfolding counts
-  limited = proper .limited
-    where
-      proper : Proper (q .net) (countsOf (q .entries))
-      proper = marking-counts (q .net) ms (q .entries) (q .end) (q .marked)
+  sees : Sees ws ps ms begins (q .entries)
+  sees = record { next = q .end; marked = rw (← q .placed) (q .marked); begun = q .begun }
 
   -- ── 13 ──
 
-  module _ {ins : Flows} (i : IsTaken ws ps (outlined t .guard) (outlined t .inputs) ms begins bs ins) where
+  module _ {ins : Gathered} {ikeys iamounts : List ℕ} (i : IsTaken ws ps gs is ms begins bs ins ikeys iamounts) where
+    enabled-is : ins .some ≡ isEnabled houseTable (q .transition) (countsOf (q .entries)) (q .binding)
+    enabled-is = enabled-told ws bs (q .net .places) (q .at) (q .transition) (q .after) (q .there) (q .many) ps (q .placed) (q .guard-at) (q .inputs-at) (q .entries) (q .end) (q .marked) (q .begun) (q .binding) (q .values) (i .enabled)
+
     pub fired-13 : (buffer : List ℕ) → not (ins .some) ≡ true → fireEnd (FireRefused notEnabled 0) buffer ≡ firedBy (q .net) buffer (fire houseTable (q .net) (length buffer) (q .transition) (countsOf (q .entries)) (q .binding))
-    unfolding fire occur counts
+    unfolding fire occur
     fired-13 buffer d =
-        let e : isEnabled houseTable (q .transition) (countsOf (q .entries)) (q .binding) ≡ false = sym (enabled-is i) ∙ not-true (ins .some) d in
+        let e : isEnabled houseTable (q .transition) (countsOf (q .entries)) (q .binding) ≡ false = sym enabled-is ∙ not-true (ins .some) d in
         rw e
 
     module _ (d : not (ins .some) ≡ false) where
-      is-some : ins .some ≡ true
-      is-some = not-false (ins .some) d
-
       enabled : isEnabled houseTable (q .transition) (countsOf (q .entries)) (q .binding) ≡ true
-      unfolding counts
-      enabled = sym (enabled-is i) ∙ is-some
+      enabled = sym enabled-is ∙ not-false (ins .some) d
 
-      ins-are : flows houseTable (bound (q .binding)) (q .transition .inputs) ≡ some (flowsOf ins)
-      ins-are = sym inputs-are ∙ sym (i .flows is-some .same) ∙ ap (λ (s : Bool). given s (flowsOf ins)) is-some
+      taken : Gathers ws ps (flows houseTable (bound (q .binding)) (q .transition .inputs)) (take (ins .n) ikeys) (take (ins .n) iamounts)
+      taken =
+          let s = not-false (ins .some) d in
+          gathers ws ps (flows houseTable (bound (q .binding)) (q .transition .inputs)) (take (ins .n) ikeys) (take (ins .n) iamounts) (sym (ap (λ (u : Bool). given u (keyFlows ws ps (take (ins .n) ikeys) (take (ins .n) iamounts))) s) ∙ i .gathered s .same ∙ ap (gatheredBy ws ps) inputs-are)
 
       -- ── 14 ──
 
-      module _ {outs : Flows} (o : IsGiven ws ps t bs outs) where
-        delivered-is : flowsRead outs ≡ deliveredBy ws ps (flows houseTable (bound (q .binding)) (q .transition .outputs))
-        delivered-is = o .same ∙ ap (deliveredBy ws ps) outputs-are
-
-        fits-same : (f : Flow) → fitsAt ws ps f ≡ fits (q .net) f
-        fits-same f = rw (q .placed)
+      module _ {outs : Gathered} {okeys oamounts : List ℕ} (o : IsGathered ws ps bs os outs okeys oamounts) where
+        made-is : given (outs .some) (keyFlows ws ps (take (outs .n) okeys) (take (outs .n) oamounts)) ≡ gatheredBy ws ps (flows houseTable (bound (q .binding)) (q .transition .outputs))
+        made-is = o .same ∙ ap (gatheredBy ws ps) outputs-are
 
         every-fits : (fs : List Flow) → every (fitsAt ws ps) fs ≡ every (fits (q .net)) fs
         unfolding every
         every-fits [] = refl
-        every-fits (f ∷ fs) = rw (fits-same f, every-fits fs)
+        every-fits (f ∷ fs) = let e : fitsAt ws ps f ≡ fits (q .net) f = rw (q .placed) in rw (e, every-fits fs)
 
         pub fired-14 : (buffer : List ℕ) → not (outs .some) ≡ true → fireEnd (FireRefused badOutput 0) buffer ≡ firedBy (q .net) buffer (fire houseTable (q .net) (length buffer) (q .transition) (countsOf (q .entries)) (q .binding))
         unfolding fire occur
-        fired-14 buffer n = rw (enabled, ins-are) (by (flows houseTable (bound (q .binding)) (q .transition .outputs)) (sym (ap (λ (s : Bool). given s (flowsOf outs)) (not-true (outs .some) n)) ∙ delivered-is))
+        fired-14 buffer n = rw (enabled, taken .told) (by (flows houseTable (bound (q .binding)) (q .transition .outputs)) (sym (ap (λ (s : Bool). given s (keyFlows ws ps (take (outs .n) okeys) (take (outs .n) oamounts))) (not-true (outs .some) n)) ∙ made-is))
           where
-            by : (x : Option (List Flow)) → none ≡ deliveredBy ws ps x → fireEnd (FireRefused badOutput 0) buffer ≡ firedBy (q .net) buffer (roomed (q .net) (length buffer) (occurBy (q .net) (countsOf (q .entries)) (some (flowsOf ins)) x))
+            by : (x : Option (List Flow)) → none ≡ gatheredBy ws ps x → fireEnd (FireRefused badOutput 0) buffer ≡ firedBy (q .net) buffer (roomed (q .net) (length buffer) (occurBy (q .net) (countsOf (q .entries)) (some (taken .flows-are)) x))
             by none e = refl
             by (some fs) e = unfit (either (every (fits (q .net)) fs))
               where
-                unfit : (every (fits (q .net)) fs ≡ true) ⊎ (every (fits (q .net)) fs ≡ false) → fireEnd (FireRefused badOutput 0) buffer ≡ firedBy (q .net) buffer (roomed (q .net) (length buffer) (occurBy (q .net) (countsOf (q .entries)) (some (flowsOf ins)) (some fs)))
-                unfit (inl h) = none-some (e ∙ ap (λ (s : Bool). given s fs) (every-fits fs ∙ h))
+                unfit : (every (fits (q .net)) fs ≡ true) ⊎ (every (fits (q .net)) fs ≡ false) → fireEnd (FireRefused badOutput 0) buffer ≡ firedBy (q .net) buffer (roomed (q .net) (length buffer) (occurBy (q .net) (countsOf (q .entries)) (some (taken .flows-are)) (some fs)))
+                unfit (inl h) = none-some (e ∙ ap (λ (s : Bool). given s (select moving fs)) (every-fits fs ∙ h))
                 unfit (inr h) = rw h
 
+        -- ── 15, 16, or the new marking ──
+
         module _ (n : not (outs .some) ≡ false) where
-          given-some : some (flowsOf outs) ≡ deliveredBy ws ps (flows houseTable (bound (q .binding)) (q .transition .outputs))
-          given-some = sym (ap (λ (s : Bool). given s (flowsOf outs)) (not-false (outs .some) n)) ∙ delivered-is
+          made : Gathers ws ps (flows houseTable (bound (q .binding)) (q .transition .outputs)) (take (outs .n) okeys) (take (outs .n) oamounts)
+          made = gathers ws ps (flows houseTable (bound (q .binding)) (q .transition .outputs)) (take (outs .n) okeys) (take (outs .n) oamounts) (sym (ap (λ (s : Bool). given s (keyFlows ws ps (take (outs .n) okeys) (take (outs .n) oamounts))) (not-false (outs .some) n)) ∙ made-is)
 
-          outs-are : (flows houseTable (bound (q .binding)) (q .transition .outputs) ≡ some (flowsOf outs)) × (every (fits (q .net)) (flowsOf outs) ≡ true)
-          outs-are = by (flows houseTable (bound (q .binding)) (q .transition .outputs)) given-some
+          abbrev ik : List ℕ
+          ik = take (ins .n) ikeys
+
+          abbrev ia : List ℕ
+          ia = take (ins .n) iamounts
+
+          abbrev ok : List ℕ
+          ok = take (outs .n) okeys
+
+          abbrev oa : List ℕ
+          oa = take (outs .n) oamounts
+
+          effect-is : effect (countsOf (q .entries)) (taken .flows-are) (made .flows-are) ≡ after ws ps ik ia ok oa (q .entries)
+          effect-is = effect-keys (countsOf (q .entries)) ws ps (taken .flows-are) (made .flows-are) ik ia ok oa (taken .moving-are) (made .moving-are)
+
+          -- where the keys stay within the limit, so does every count
+          all-limited : every (within ws ps (after ws ps ik ia ok oa (q .entries))) (keysFrom 0 (ik ++ ok)) ≡ true → Limited (after ws ps ik ia ok oa (q .entries))
+          all-limited e = at-named (λ p c. after ws ps ik ia ok oa (q .entries) p c ≤ mostCount) (keyFlows ws ps ok oa) named (λ p c z. let l = proper .limited p c in omega arith)
             where
-              by : (x : Option (List Flow)) → some (flowsOf outs) ≡ deliveredBy ws ps x → (x ≡ some (flowsOf outs)) × (every (fits (q .net)) (flowsOf outs) ≡ true)
-              by none e = none-some (sym e)
-              by (some fs) e = fit (either (every (fitsAt ws ps) fs))
-                where
-                  fit : (every (fitsAt ws ps) fs ≡ true) ⊎ (every (fitsAt ws ps) fs ≡ false) → (some fs ≡ some (flowsOf outs)) × (every (fits (q .net)) (flowsOf outs) ≡ true)
-                  fit (inr h) = none-some (sym (e ∙ ap (λ (s : Bool). given s fs) h))
-                  fit (inl h) =
-                      let a : some (flowsOf outs) ≡ some fs = e ∙ ap (λ (s : Bool). given s fs) h in
-                      let b : flowsOf outs ≡ fs = cc in
-                      (sym a, subst (λ (l : List Flow). every (fits (q .net)) l ≡ true) (sym b) (sym (every-fits fs) ∙ h))
+              named : (f : Flow) → List·Memᴰ f (keyFlows ws ps ok oa) → after ws ps ik ia ok oa (q .entries) (f .place) (f .colour) ≤ mostCount
+              named f j =
+                  let k = flow-keyed ws ps ok oa j in
+                  let x : List·Memᴰ (k .0) (keysFrom 0 (ik ++ ok)) = rw (keys-all (ik ++ ok)) (sort-in (ik ++ ok) (Memᴰ·append-right ik (k .1))) in
+                  subst (λ (p : ℕ). after ws ps ik ia ok oa (q .entries) p (f .colour) ≤ mostCount) (sym (k .2)) (subst (λ (c : List ℤ). after ws ps ik ia ok oa (q .entries) (keyPlace (k .0)) c ≤ mostCount) (sym (k .3)) (leb-true _ _ (every-at (within ws ps (after ws ps ik ia ok oa (q .entries))) e x)))
 
-          -- the occurrence, by the limit of counts
-          occurs : occur houseTable (q .net) (q .transition) (countsOf (q .entries)) (q .binding) ≡ cond (withinCounts (countsOf (q .entries)) (flowsOf ins) (flowsOf outs)) (moved (effect (countsOf (q .entries)) (flowsOf ins) (flowsOf outs))) (stopped overCount)
+          within-is : withinCounts (countsOf (q .entries)) (taken .flows-are) (made .flows-are) ≡ every (within ws ps (after ws ps ik ia ok oa (q .entries))) (keysFrom 0 (ik ++ ok))
+          within-is = same-test _ _ forth back
+            where
+              forth : withinCounts (countsOf (q .entries)) (taken .flows-are) (made .flows-are) ≡ true → every (within ws ps (after ws ps ik ia ok oa (q .entries))) (keysFrom 0 (ik ++ ok)) ≡ true
+              forth w =
+                  let l : Limited (after ws ps ik ia ok oa (q .entries)) = subst Limited effect-is (within-all (countsOf (q .entries)) (taken .flows-are) (made .flows-are) (proper .limited) w) in
+                  every-of (within ws ps (after ws ps ik ia ok oa (q .entries))) (keysFrom 0 (ik ++ ok)) (λ k j. le-leb _ _ (l (keyPlace k) (keyColour ws ps k)))
+
+              back : every (within ws ps (after ws ps ik ia ok oa (q .entries))) (keysFrom 0 (ik ++ ok)) ≡ true → withinCounts (countsOf (q .entries)) (taken .flows-are) (made .flows-are) ≡ true
+              back e = all-within (countsOf (q .entries)) (taken .flows-are) (made .flows-are) (subst Limited (sym effect-is) (all-limited e))
+
+          occurs : occur houseTable (q .net) (q .transition) (countsOf (q .entries)) (q .binding) ≡ cond (every (within ws ps (after ws ps ik ia ok oa (q .entries))) (keysFrom 0 (ik ++ ok))) (moved (after ws ps ik ia ok oa (q .entries))) (stopped overCount)
           unfolding occur
-          occurs = rw (enabled, ins-are, outs-are .0, outs-are .1)
+          occurs = rw (enabled, taken .told, made .told, ← every-fits (made .flows-are), made .fit) (ap (λ (b : Bool). cond b (moved (effect (countsOf (q .entries)) (taken .flows-are) (made .flows-are))) (stopped overCount)) within-is ∙ ap (λ (m : Counts). cond (every (within ws ps (after ws ps ik ia ok oa (q .entries))) (keysFrom 0 (ik ++ ok))) (moved m) (stopped overCount)) effect-is)
 
-          -- ── 15 ──
+          new-proper : every (within ws ps (after ws ps ik ia ok oa (q .entries))) (keysFrom 0 (ik ++ ok)) ≡ true → Proper (q .net) (after ws ps ik ia ok oa (q .entries))
+          new-proper e =
+              let moves = occurs ∙ ap (λ (b : Bool). cond b (moved (after ws ps ik ia ok oa (q .entries))) (stopped overCount)) e in
+              let (s, same) = occurs-step houseTable (q .net) (q .transition) (countsOf (q .entries)) (q .binding) (proper .limited) (after ws ps ik ia ok oa (q .entries)) moves in
+              subst (Proper (q .net)) (sym same) (step-proper houseTable (q .net) (q .transition) (countsOf (q .entries)) (q .binding) proper (λ a j. Every-at (λ (a : Arc). a .place < length (q .net .places)) (q .outputs) j) s)
 
-          module _ {built : Built} (k : IsBuilt ins outs ms begins built) (p : PlacesFit ws ps) where
-            told-by : BuiltFrom (q .entries) (flowsOf ins) (flowsOf outs) built
-            told-by =
-                let a : Every (Fitted (q .net .places)) (flowsOf ins) = rw (q .placed) (flows-fitted p (i .flows is-some)) in
-                let b : Every (Fitted (q .net .places)) (flowsOf outs) = rw (q .placed) (flows-fitted p (o .flows (not-false (outs .some) n))) in
-                k .built (q .net .places) (q .entries) (q .end) (q .marked) (q .begun) a b
+          pub fired-stepping : Moves ws ps ik ia ok oa begins → Stepping ws ps ik ia ok oa ms begins
+          fired-stepping m = record { moves = m; net = q .net; entries = q .entries; placed = q .placed; sees = sees; proper = new-proper }
 
-            -- where outputs stay within the limit, so does every count
-            all-in : withinCounts (countsOf (q .entries)) (flowsOf ins) (flowsOf outs) ≡ true → (every (within (effect (countsOf (q .entries)) (flowsOf ins) (flowsOf outs))) (flowsOf ins) && every (within (effect (countsOf (q .entries)) (flowsOf ins) (flowsOf outs))) (flowsOf outs)) ≡ true
-            unfolding counts
-            all-in w =
-                let l = within-all (countsOf (q .entries)) (flowsOf ins) (flowsOf outs) limited w in
-                and-both (every (within (effect (countsOf (q .entries)) (flowsOf ins) (flowsOf outs))) (flowsOf ins)) (every (within (effect (countsOf (q .entries)) (flowsOf ins) (flowsOf outs))) (flowsOf outs)) (every-of (within (effect (countsOf (q .entries)) (flowsOf ins) (flowsOf outs))) (flowsOf ins) (λ f j. le-leb _ _ (l (f .place) (f .colour)))) w
-
-            pub fired-15 : (buffer : List ℕ) → built .over ≡ true → fireEnd (FireRefused overCount 0) buffer ≡ firedBy (q .net) buffer (fire houseTable (q .net) (length buffer) (q .transition) (countsOf (q .entries)) (q .binding))
-            unfolding fire
-            fired-15 buffer e = by (either (withinCounts (countsOf (q .entries)) (flowsOf ins) (flowsOf outs)))
-              where
-                by : (withinCounts (countsOf (q .entries)) (flowsOf ins) (flowsOf outs) ≡ true) ⊎ (withinCounts (countsOf (q .entries)) (flowsOf ins) (flowsOf outs) ≡ false) → fireEnd (FireRefused overCount 0) buffer ≡ firedBy (q .net) buffer (fire houseTable (q .net) (length buffer) (q .transition) (countsOf (q .entries)) (q .binding))
-                by (inl w) = false-true (sym (told-by .over ∙ ap not (all-in w)) ∙ e)
-                by (inr w) = rw (occurs, w)
-
-            module _ (e : built .over ≡ false) where
-              within-limit : withinCounts (countsOf (q .entries)) (flowsOf ins) (flowsOf outs) ≡ true
-              within-limit = and-right (every (within (effect (countsOf (q .entries)) (flowsOf ins) (flowsOf outs))) (flowsOf ins)) (withinCounts (countsOf (q .entries)) (flowsOf ins) (flowsOf outs)) (not-false _ (sym (told-by .over) ∙ e))
-
-              moves : occur houseTable (q .net) (q .transition) (countsOf (q .entries)) (q .binding) ≡ moved (effect (countsOf (q .entries)) (flowsOf ins) (flowsOf outs))
-              moves = occurs ∙ ap (λ (w : Bool). cond w (moved (effect (countsOf (q .entries)) (flowsOf ins) (flowsOf outs))) (stopped overCount)) within-limit
-
-              new-proper : Proper (q .net) (effect (countsOf (q .entries)) (flowsOf ins) (flowsOf outs))
-              unfolding counts
-              new-proper =
-                  let (s, same) = occurs-step houseTable (q .net) (q .transition) (countsOf (q .entries)) (q .binding) limited (effect (countsOf (q .entries)) (flowsOf ins) (flowsOf outs)) moves in
-                  subst (Proper (q .net)) (sym same) (step-proper houseTable (q .net) (q .transition) (countsOf (q .entries)) (q .binding) (marking-counts (q .net) ms (q .entries) (q .end) (q .marked)) (λ a j. Every-at (λ (a : Arc). a .place < length (q .net .places)) (q .outputs) j) s)
-
-              changing : Changing (q .net) (q .entries) (effect (countsOf (q .entries)) (flowsOf ins) (flowsOf outs)) (changesOf (built .changes))
-              changing = record {
-                rises = told-by .rises e;
-                told = told-by .told e;
-                kept = λ p c u. untouched-same told-by e p c u;
-                proper = new-proper;
-              }
-
-              pub fired-ready : Ready ms (built .changes)
-              fired-ready = record {
-                few = k .kept .few;
-                small = k .kept .small;
-                ordered = patched-ordered (q .net .places) ms (q .entries) (q .end) (q .marked) (q .net) (effect (countsOf (q .entries)) (flowsOf ins) (flowsOf outs)) (changesOf (built .changes)) changing;
-              }
-
-              new-words : patched ms 0 (changesOf (built .changes)) ≡ markingWords (q .net) (effect (countsOf (q .entries)) (flowsOf ins) (flowsOf outs))
-              new-words = patched-words (q .net .places) ms (q .entries) (q .end) (q .marked) (q .net) (effect (countsOf (q .entries)) (flowsOf ins) (flowsOf outs)) (changesOf (built .changes)) changing
-
-              -- ── 16, and the new marking ──
-
-              module _ (buffer : List ℕ) {size : ℕ} (l : size ≡ length (patched ms 0 (changesOf (built .changes)))) where
-                size-is : length (markingWords (q .net) (effect (countsOf (q .entries)) (flowsOf ins) (flowsOf outs))) ≡ size
-                size-is = ap length (sym new-words) ∙ sym l
-
-                pub fired-16 : length buffer < size → fireEnd (FireRefused overRoom 0) buffer ≡ firedBy (q .net) buffer (fire houseTable (q .net) (length buffer) (q .transition) (countsOf (q .entries)) (q .binding))
-                unfolding fire
-                fired-16 h = rw (moves, size-is, lt-leb size (length buffer) h)
-
-                module _ (h : size ≤ length buffer) where
-                  pub fired-16-words : mostWords < size → fireEnd (FireRefused overRoom 0) buffer ≡ firedBy (q .net) buffer (fire houseTable (q .net) (length buffer) (q .transition) (countsOf (q .entries)) (q .binding))
-                  unfolding fire
-                  fired-16-words g = rw (moves, size-is, le-leb size (length buffer) h, lt-leb size mostWords g)
-
-                  pub fired-written : {r : ℕ} {next : List ℕ} → size ≤ mostWords → next ≡ patched ms 0 (changesOf (built .changes)) ++ drop (length (patched ms 0 (changesOf (built .changes)))) buffer → r ≡ length (patched ms 0 (changesOf (built .changes))) → fireEnd (Written r) next ≡ firedBy (q .net) buffer (fire houseTable (q .net) (length buffer) (q .transition) (countsOf (q .entries)) (q .binding))
-                  unfolding fire
-                  fired-written g x y = rw (moves, size-is, le-leb size (length buffer) h, le-leb size mostWords g) (rw (x, y, new-words, size-is))
+          pub fired-step : Moves ws ps ik ia ok oa begins → {buffer : List ℕ} {r : Fired} {rest : List ℕ} → IsStep ws ps ik ia ok oa ms begins buffer r rest → fireEnd r rest ≡ firedBy (q .net) buffer (fire houseTable (q .net) (length buffer) (q .transition) (countsOf (q .entries)) (q .binding))
+          unfolding fire fired-stepping
+          fired-step m {buffer} x = x .fired (fired-stepping m) ∙ ap (λ (f : Firing). firedBy (q .net) buffer (roomed (q .net) (length buffer) f)) (sym occurs)

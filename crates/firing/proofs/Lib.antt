@@ -1,8 +1,5 @@
-pub mod Patched
-pub mod Writing
-pub mod Keys
-pub mod Inserting
-pub mod Building
-pub mod Fitting
+pub mod Sorted
+pub mod Counting
+pub mod Stepped
 pub mod Firing
 pub mod Calling

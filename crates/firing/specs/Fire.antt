@@ -21,8 +21,8 @@ use Rattle.net.specs.Index.{outlined}
 use Rattle.net.specs.Places.{placesAt}
 use Rattle.marking.specs.Marked.{markingRead, Begins}
 
--- a transition of a net, a marking and a binding, with what the code has of them
-pub record Fireable (ws ps : List ℕ) (t : TransitionIndex) (ms begins bs : List ℕ) : Type 0 where
+-- a transition of a net, whose conjuncts and arcs stand at these positions, a marking and a binding, with what the code has of them
+pub record FireableAt (ws ps gs is os ms begins bs : List ℕ) : Type 0 where
   pub net : Net
   pub at : ℕ
   pub transition : Transition
@@ -32,17 +32,26 @@ pub record Fireable (ws ps : List ℕ) (t : TransitionIndex) (ms begins bs : Lis
   pub binding : List ℤ
   pub placed : net .places ≡ placesAt ws ps
   pub there : readTransition ws (net .places) at ≡ read transition after
-  pub outlines : outlined t ≡ outline transition
+  pub guard-at : gs ≡ outline transition .guard
+  pub inputs-at : is ≡ outline transition .inputs
+  pub outputs-at : os ≡ outline transition .outputs
   pub outputs : Every (λ (a : Arc). a .place < length (net .places)) (transition .outputs)
   pub marked : markingRead (net .places) ms ≡ read entries end
   pub begun : Begins entries begins
   pub many : length bs ≡ length (transition .variables)
   pub values : lent bs ≡ bound binding
 
+-- the same by the index of the transition
+abbrev pub Fireable : List ℕ → List ℕ → TransitionIndex → List ℕ → List ℕ → List ℕ → Type 0
+Fireable ws ps t ms begins bs = FireableAt ws ps (outlined t .guard) (outlined t .inputs) (outlined t .outputs) ms begins bs
+
 -- answer and buffer, as the definition of the call has them
 abbrev pub fireEnd : Fired → List ℕ → FireEnd
 fireEnd r buffer = record { answer = r; buffer = buffer }
 
 -- the answer, and the buffer after it
-pub record IsFired (ws ps : List ℕ) (t : TransitionIndex) (ms begins bs buffer : List ℕ) (r : Fired) (after : List ℕ) : Type 0 where
-  pub fired : (q : Fireable ws ps t ms begins bs) → fireEnd r after ≡ firedBy (q .net) buffer (fire houseTable (q .net) (length buffer) (q .transition) (countsOf (q .entries)) (q .binding))
+pub record IsFiredAt (ws ps gs is os ms begins bs buffer : List ℕ) (r : Fired) (after : List ℕ) : Type 0 where
+  pub fired : (q : FireableAt ws ps gs is os ms begins bs) → fireEnd r after ≡ firedBy (q .net) buffer (fire houseTable (q .net) (length buffer) (q .transition) (countsOf (q .entries)) (q .binding))
+
+abbrev pub IsFired : List ℕ → List ℕ → TransitionIndex → List ℕ → List ℕ → List ℕ → List ℕ → Fired → List ℕ → Type 0
+IsFired ws ps t ms begins bs buffer r after = IsFiredAt ws ps (outlined t .guard) (outlined t .inputs) (outlined t .outputs) ms begins bs buffer r after

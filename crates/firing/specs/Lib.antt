@@ -1,4 +1,3 @@
-pub mod Patch
-pub mod Fit
-pub mod Built
+pub mod Keys
 pub mod Fire
+pub mod Changes

@@ -1,8 +1,7 @@
 // The call fire: the marking after a step, written to a second buffer, or the refusal; a refusal leaves the buffer as it was.
-use crate::change::changes_of;
-use crate::fit::delivered;
-use crate::patch::patched_length;
-use crate::patch::write_patched;
+use crate::step::fire_keys;
+use accept::plan::at_most;
+use arcs::gather::gather;
 use expression::read::Skipped;
 use marking::binding::read_binding;
 use net::index::TransitionIndex;
@@ -10,12 +9,75 @@ use occurrence::enabled::taken;
 use occurrence::situation::prepare;
 use semantics::Fired;
 ghost use mathlib.Core.Path.{_≡_};
+ghost use Prim.Native.Nat.{_≤_};
 ghost use lib.ListN.{length};
 ghost use Rattle.semantics.specs.Calls.{fireCall};
 ghost use Rattle.net.specs.Places.{PlacesFit};
-ghost use Rattle.firing.specs.Fire.{Fireable, IsFired, fireEnd};
+ghost use Rattle.firing.specs.Fire.{FireableAt, IsFiredAt, Fireable, IsFired, fireEnd};
 
-// 13, 14, 15 and 16 in that order, or the new marking is written: never a state that is larger than both ends.
+// 13, 14, 15 and 16 in that order, or the new marking is written. The conjuncts and arcs of the transition stand at these positions.
+fn fire_arcs(
+    net: &[u32],
+    places: &[usize],
+    conjuncts: &[usize],
+    inputs: &[usize],
+    outputs: &[usize],
+    marking: &[u32],
+    begins: &[usize],
+    binding: &[u32],
+    next: &mut [u32],
+) -> Fired
+    requires { ⌜ PlacesFit (now net) (now places) ⌝ }
+    requires { ⌜ length (now begins) ≡ 65 ⌝ }
+    requires { ⌜ (length (now inputs) ≤ 8) × (length (now outputs) ≤ 8) ⌝ }
+    requires { ⌜ FireableAt (now net) (now places) (now conjuncts) (now inputs) (now outputs) (now marking) (now begins) (now binding) ⌝ }
+    ensures { λ r. ⌜ IsFiredAt (now (net .entry)) (now (places .entry)) (now (conjuncts .entry)) (now (inputs .entry)) (now (outputs .entry)) (now (marking .entry)) (now (begins .entry)) (now (binding .entry)) (now (next .entry)) r (now (next .exit)) ⌝ }
+{
+    let mut in_keys = [0u64; 8];
+    let mut in_amounts = [0u32; 8];
+    let ins = taken(
+        net,
+        places,
+        conjuncts,
+        inputs,
+        marking,
+        begins,
+        binding,
+        &mut in_keys[..],
+        &mut in_amounts[..],
+    );
+    if !ins.some {
+        return Fired::Refused(13, 0);
+    }
+    let mut out_keys = [0u64; 8];
+    let mut out_amounts = [0u32; 8];
+    let outs = gather(
+        net,
+        places,
+        binding,
+        outputs,
+        &mut out_keys[..],
+        &mut out_amounts[..],
+    );
+    if !outs.some {
+        return Fired::Refused(14, 0);
+    }
+    let n = ins.n;
+    let m = outs.n;
+    fire_keys(
+        net,
+        places,
+        &in_keys[..n],
+        &in_amounts[..n],
+        &out_keys[..m],
+        &out_amounts[..m],
+        marking,
+        begins,
+        next,
+    )
+}
+
+// The same by the index of the transition.
 pub fn fire_binding(
     net: &[u32],
     places: &[usize],
@@ -30,27 +92,23 @@ pub fn fire_binding(
     requires { ⌜ Fireable (now net) (now places) t (now marking) (now begins) (now binding) ⌝ }
     ensures { λ r. ⌜ IsFired (now (net .entry)) (now (places .entry)) t (now (marking .entry)) (now (begins .entry)) (now (binding .entry)) (now (next .entry)) r (now (next .exit)) ⌝ }
 {
-    let ins = taken(net, places, t, marking, begins, binding);
-    if !ins.some {
-        return Fired::Refused(13, 0);
-    }
-    let outs = delivered(net, places, t, binding);
-    if !outs.some {
-        return Fired::Refused(14, 0);
-    }
-    let built = changes_of(ins, outs, marking, begins);
-    if built.over {
-        return Fired::Refused(15, 0);
-    }
-    let changes = built.changes;
-    let length = patched_length(marking, changes);
-    if next.len() < length {
-        return Fired::Refused(16, 0);
-    }
-    if 16384 < length {
-        return Fired::Refused(16, 0);
-    }
-    Fired::Written(write_patched(marking, changes, next))
+    let conjuncts = at_most(8, t.conjuncts);
+    let conjuncts_at = t.conjuncts_at;
+    let inputs = at_most(8, t.inputs);
+    let inputs_at = t.inputs_at;
+    let outputs = at_most(8, t.outputs);
+    let outputs_at = t.outputs_at;
+    fire_arcs(
+        net,
+        places,
+        &conjuncts_at[..conjuncts],
+        &inputs_at[..inputs],
+        &outputs_at[..outputs],
+        marking,
+        begins,
+        binding,
+        next,
+    )
 }
 
 // The first refusal of net, transition, marking and binding, in that order; then as above.

@@ -2,28 +2,22 @@
 -- entries, each of the same length. The idea: entries rise by place, so those of lesser places come first and those of greater ones last.
 use mathlib.Core.Path.{_≡_, refl, sym, ap, _∙_, subst}
 use mathlib.Core.Logic.{_⊎_, inl, inr}
-use Prim.Native.Nat.{ℕ, zero, suc, _+_, _*_, _≤_, _<_, _%_, _^_}
-use mathlib.Core.Bool.{Bool, true, false, cond, _&&_, _||_}
-use mathlib.Core.List.{List, [], _∷_, _++_, map, flatMap, append-assoc}
+use Prim.Native.Nat.{ℕ, suc, _+_, _*_, _≤_, _<_, _%_}
+use mathlib.Core.Bool.{Bool, true, false, cond}
+use mathlib.Core.List.{List, [], _∷_, map}
 use native.Mathlib.Nat.{suc-mul}
 use native.Mathlib.Omega.{arith}
 use borrow.Author.Tests.{lt-ltb, le-ltb, ltb-true, ltb-false, eqb-true, eqb-false, eq-eqb, ne-eqb}
 use lib.Dec.{eqb, ltb}
-use lib.IntN.{ℤ, pos}
-use lib.Signed.{mag}
-use lib.ListN.{length, getD, drop, length-map}
-use Rattle.semantics.specs.Refusal.{mostCount}
-use Rattle.semantics.specs.Lists.{Every, consIf, select}
-use Rattle.semantics.specs.Word.{signed, modulo, tokenWord, valueWord}
-use Rattle.semantics.specs.Net.{Place, rangesAt}
+use lib.IntN.{ℤ}
+use lib.ListN.{length, getD}
+use Rattle.semantics.specs.Lists.{Every, select}
 use Rattle.semantics.specs.Order.{sameInteger, sameTuple, before, Rising}
 use Rattle.semantics.specs.Marking.{Entry, key, countsOf}
-use Rattle.semantics.proofs.Tests.{false-true, either, Every-at, Every-of}
-use Rattle.semantics.proofs.Words.{modulo-below, value-payload, signed-modulo}
-use Rattle.semantics.proofs.Spans.{drop-first, drop-after}
-use Rattle.semantics.proofs.Entries.{entryKey, wordsOfEntry, wordsOf, Good}
+use Rattle.semantics.proofs.Tests.{either, Every-at, Every-of}
+use Rattle.semantics.proofs.Entries.{entryKey}
 use Rattle.marking.proofs.Rising.{before-nothing, place-after, key-rises}
-use Rattle.marking.specs.Marked.{valuesAt, blockAt, coloursAt, rankOf, positionOf, beginOf}
+use Rattle.marking.specs.Marked.{valuesAt, blockAt, rankOf, positionOf, beginOf}
 
 -- an entry is on a place
 abbrev pub on : ℕ → Entry → Bool

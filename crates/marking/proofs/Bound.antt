@@ -1,7 +1,7 @@
 -- The rules of reading a binding: its values, and nothing after them. A binding that is accepted is its values' words.
 use mathlib.Core.Path.{_≡_, refl, sym, ap, _∙_, subst}
 use Prim.Native.Nat.{ℕ, zero, suc, _+_, _≤_, _<_}
-use mathlib.Core.Bool.{Bool, true, false}
+use mathlib.Core.Bool.{true}
 use mathlib.Core.List.{List, [], _∷_, _++_, map, append-nil}
 use borrow.Author.Needs.{needs}
 use borrow.Author.Tests.{le-leb, lt-leb, leb-true}
@@ -14,7 +14,7 @@ use Rattle.semantics.specs.Refusal.{badBinding}
 use Rattle.semantics.specs.Lists.{Every}
 use Rattle.semantics.specs.Word.{bits, Range, within, valueWord}
 use Rattle.semantics.specs.Order.{inRanges}
-use Rattle.semantics.specs.Reading.{Reading, read, refused, then, demand, valuesIn, ended, numbered}
+use Rattle.semantics.specs.Reading.{Reading, read, refused, then, valuesIn, ended, numbered}
 use Rattle.semantics.proofs.Tests.{false-true, and-left, and-right}
 use Rattle.semantics.proofs.Words.{within-mag}
 use Rattle.semantics.proofs.Accepted.{signed-small}

@@ -2,7 +2,7 @@
 -- One law for each turn and end, over two lists, whatever words or numbers they stand in.
 use mathlib.Core.Path.{_≡_, refl, sym, ap, _∙_}
 use Prim.Native.Nat.{ℕ, zero, suc, _+_, _≤_, _<_, _%_}
-use mathlib.Core.Bool.{Bool, true, false, not, _&&_, _||_}
+use mathlib.Core.Bool.{Bool, true, false, not}
 use mathlib.Core.List.{List, [], _∷_}
 use borrow.Author.Needs.{needs}
 use borrow.Author.Tests.{not-true, not-false}
@@ -112,42 +112,4 @@ module _ {ws : List ℕ} {n p q i : ℕ} (a : WordsLeft ws n p q i) where
       pub words-turn : not u ≡ false → WordsLeft ws n p q (i + 1)
       words-turn d = record { left = before-turn (a .left) inside-words left-word right-word (sym e ∙ k) (sym s ∙ not-false _ d) }
 
--- words against a colour, by the order or by equality
-pub record ColourLeft (f : List ℤ → List ℤ → Bool) (ws : List ℕ) (p : ℕ) (c : List ℤ) (i : ℕ) : Type 0 where
-  pub left : Left f (valuesAt ws (length c) p) c i
-
-pub colour-start : (f : List ℤ → List ℤ → Bool) (ws : List ℕ) (p : ℕ) (c : List ℤ) → ColourLeft f ws p c 0
-colour-start f ws p c = record { left = left-start f (valuesAt ws (length c) p) c (sym (values-length ws (length c) p)) }
-
-inside-colour : (ws : List ℕ) (p : ℕ) (c : List ℤ) (i : ℕ) → i < length c → i < length (valuesAt ws (length c) p)
-inside-colour ws p c i h = rw (values-length ws (length c) p) h
-
-module _ {ws : List ℕ} {p i : ℕ} {c : List ℤ} (a : ColourLeft before ws p c i) where
-  pub colour-last : length c ≤ i → false ≡ before (valuesAt ws (length c) p) c
-  unfolding before
-  colour-last h = left-end (a .left) (rw (values-length ws (length c) p) h)
-
-  module _ {x y : ℤ} (h : i < length c) (f : x ≡ signed (getD ws (p + i) 0 % 16384)) (g : y ≡ getD c i (pos 0)) {t : Bool} (e : t ≡ ltZ x y) where
-    pub colour-less : t ≡ true → true ≡ before (valuesAt ws (length c) p) c
-    colour-less d = before-less (a .left) (inside-colour ws p c i h) (f ∙ sym (values-at ws (length c) p i h)) g (sym e ∙ d)
-
-    module _ (k : t ≡ false) {u : Bool} (s : u ≡ sameInteger x y) where
-      pub colour-more : not u ≡ true → false ≡ before (valuesAt ws (length c) p) c
-      colour-more d = before-more (a .left) (inside-colour ws p c i h) (f ∙ sym (values-at ws (length c) p i h)) g (sym e ∙ k) (sym s ∙ not-true _ d)
-
-      pub colour-turn : not u ≡ false → ColourLeft before ws p c (i + 1)
-      colour-turn d = record { left = before-turn (a .left) (inside-colour ws p c i h) (f ∙ sym (values-at ws (length c) p i h)) g (sym e ∙ k) (sym s ∙ not-false _ d) }
-
-module _ {ws : List ℕ} {p i : ℕ} {c : List ℤ} (a : ColourLeft sameTuple ws p c i) where
-  pub colour-whole : length c ≤ i → true ≡ sameTuple (valuesAt ws (length c) p) c
-  unfolding sameTuple
-  colour-whole h = left-end (a .left) (rw (values-length ws (length c) p) h)
-
-  module _ {x y : ℤ} (h : i < length c) (f : x ≡ signed (getD ws (p + i) 0 % 16384)) (g : y ≡ getD c i (pos 0)) {u : Bool} (s : u ≡ sameInteger x y) where
-    pub colour-differs : not u ≡ true → false ≡ sameTuple (valuesAt ws (length c) p) c
-    colour-differs d = same-differs (a .left) (inside-colour ws p c i h) (f ∙ sym (values-at ws (length c) p i h)) g (sym s ∙ not-true _ d)
-
-    pub colour-agrees : not u ≡ false → ColourLeft sameTuple ws p c (i + 1)
-    colour-agrees d = record { left = same-turn (a .left) (inside-colour ws p c i h) (f ∙ sym (values-at ws (length c) p i h)) g (sym s ∙ not-false _ d) }
-
-pub ruleset comparing = (needs, words-less, words-more, words-turn, words-end, colour-last, colour-whole, colour-less, colour-more, colour-turn, colour-differs, colour-agrees)
+pub ruleset comparing = (needs, words-less, words-more, words-turn, words-end)

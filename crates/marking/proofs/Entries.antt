@@ -1,31 +1,29 @@
 -- The rules of reading one entry: its word's tests, then its values in the ranges of its place. What is read stands in the words: its
 -- values are those of the words after its TOKEN.
-use mathlib.Core.Path.{_≡_, refl, sym, ap, _∙_, subst}
-use Prim.Native.Nat.{ℕ, zero, suc, _+_, _≤_, _<_, _/_, _%_, _^_}
+use mathlib.Core.Path.{_≡_, refl, sym, ap, _∙_}
+use Prim.Native.Nat.{ℕ, suc, _+_, _≤_, _<_, _/_, _%_, _^_}
 use mathlib.Core.Bool.{Bool, true, false, not, _&&_}
-use mathlib.Core.List.{List, [], _∷_, map}
+use mathlib.Core.List.{List, [], _∷_}
 use borrow.Author.Needs.{needs}
 use borrow.Author.Tests.{lt-ltb, ltb-true, not-true, not-false}
 use native.Mathlib.Omega.{arith}
 use lib.Dec.{leb, ltb}
 use lib.IntN.{ℤ}
-use lib.ListN.{length, getD, length-map}
-use Rattle.semantics.specs.Refusal.{badWord, mostWords}
-use Rattle.semantics.specs.Lists.{Every}
+use lib.ListN.{length, getD}
+use Rattle.semantics.specs.Refusal.{badWord}
 use Rattle.semantics.specs.Word.{kind, payload, bits, only, signed, Range, within}
 use Rattle.semantics.specs.Reading.{Reading, read, refused, then, demand, word, valuesIn}
-use Rattle.semantics.specs.Net.{Place, rangesAt}
-use Rattle.semantics.specs.Marking.{Entry, readEntry}
+use Rattle.semantics.specs.Marking.{readEntry}
 use Rattle.semantics.proofs.Tests.{and-left, and-right}
-use Rattle.semantics.proofs.Spans.{Span, then-read, read-same, refused-read, word-read, drop-first}
+use Rattle.semantics.proofs.Spans.{Span, then-read, read-same, word-read, drop-first}
 use Rattle.expression.specs.declared.read.Skipped.{Skipped}
 use Rattle.expression.specs.declared.read.Skipped.the-variants.{Next, Refused}
 use Rattle.expression.specs.Skip.{forget, skipped}
 use Rattle.net.specs.declared.take.Taken.{Taken}
 use Rattle.net.specs.declared.take.Taken.the-variants.{Word, Refused as TakeRefused}
 use Rattle.net.specs.Skim.{changed, fitsKind}
-use Rattle.net.specs.Index.{IsTaken, Takes}
-use Rattle.net.specs.Places.{rangesFrom, widthAt, placeAt, placesAt, PlaceFits, PlacesFit}
+use Rattle.net.specs.Index.{IsTaken}
+use Rattle.net.specs.Places.{rangesFrom, widthAt, placesAt, PlacesFit}
 use Rattle.net.proofs.Placed.{places-length, ranges-at, fits-at}
 use Rattle.net.proofs.Structures.{stricter, word-refused, word-taken, next-fits}
 use Rattle.marking.specs.Marked.{valuesAt, valueIn, tokenIn, entryPlace}

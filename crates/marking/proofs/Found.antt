@@ -4,28 +4,28 @@ use mathlib.Core.Path.{_≡_, refl, sym, ap, _∙_, subst}
 use mathlib.Core.Logic.{_⊎_, inl, inr}
 use Prim.Native.Nat.{ℕ, zero, suc, _+_, _*_, _-_, _/_, _%_, _≤_, _<_}
 use mathlib.Core.Bool.{Bool, true, false, cond, _&&_}
-use mathlib.Core.List.{List, [], _∷_, _++_, map, List·Memᴰ}
+use mathlib.Core.List.{List, [], _∷_, map}
 use native.Mathlib.Nat.{suc-mul, mul-le-mul-right, mul-div-cancel, div-mul-le-self}
 use native.Mathlib.Omega.{arith}
 use borrow.Author.Tests.{leb-true, leb-false, eqb-true, eq-eqb}
 use lib.Dec.{leb, eqb}
 use lib.IntN.{ℤ, pos}
 use lib.ListN.{length, getD}
-use Rattle.semantics.specs.Lists.{Every, consIf, select}
+use Rattle.semantics.specs.Lists.{Every}
 use Rattle.semantics.specs.Refusal.{badMarking}
-use Rattle.semantics.specs.Reading.{Reading, read, refused, then, demand, numbered}
+use Rattle.semantics.specs.Reading.{read, then}
 use Rattle.semantics.specs.Net.{Place, rangesAt}
 use Rattle.semantics.specs.Order.{sameTuple, before, Rising}
 use Rattle.semantics.specs.Marking.{Entry, key, readEntry, rising, readEntries, countsOf}
-use Rattle.semantics.proofs.Tests.{false-true, either, not-both, tuple-same, tuple-refl, cond-true, cond-false, Every-at, Every-of, selected}
-use Rattle.semantics.proofs.Order.{before-trans, before-irrefl, before-total, rising-select}
+use Rattle.semantics.proofs.Tests.{either, not-both, tuple-same, Every-at, Every-of, selected}
+use Rattle.semantics.proofs.Order.{before-irrefl, rising-select}
 use Rattle.semantics.proofs.Spans.{then-read, then-demand, demand-read, read-same, numbered-read}
 use Rattle.semantics.proofs.Entries.{entryKey}
-use Rattle.semantics.proofs.ReadEntries.{Accepted, entries-read}
+use Rattle.semantics.proofs.ReadEntries.{entries-read}
 use Rattle.marking.specs.declared.find.Spot.{Spot}
 use Rattle.marking.specs.Marked.{valuesAt, blockAt, coloursAt, rankOf, IsRank, markingRead, positionOf, beginOf, Begins, IsSpot}
-use Rattle.marking.proofs.Rising.{sizeOf, EntryStands, entry-stands}
-use Rattle.marking.proofs.Ranked.{rank-none, colours-length, row-room}
+use Rattle.marking.proofs.Rising.{sizeOf, entry-stands}
+use Rattle.marking.proofs.Ranked.{rank-none, row-room}
 use Rattle.marking.proofs.Blocks.{on, block, Wide, key-same, position-rank, begin-next, counts-block, Stand, block-stands}
 
 -- ── A marking that was read stands in its words ──
@@ -177,77 +177,77 @@ block-rises p es r = colours-rise p (block p es) (block-places p es) (rising-sel
 -- ── A place of a marking ──
 
 -- the entries of a place in a marking with these beginnings, and how the code sees them
-pub record Seen (ws begins : List ℕ) (p : ℕ) (c : List ℤ) (es : List Entry) : Type 0 where
+pub record Seen (ws begins : List ℕ) (p n : ℕ) (es : List Entry) : Type 0 where
   pub from : getD begins p 0 ≡ beginOf es p
-  pub to : getD begins (p + 1) 0 ≡ beginOf es p + length (block p es) * (length c + 1)
+  pub to : getD begins (p + 1) 0 ≡ beginOf es p + length (block p es) * (n + 1)
   pub inside : getD begins (p + 1) 0 ≤ length ws
-  pub stands : blockAt ws p (length c) (length (block p es)) (beginOf es p) ≡ block p es
+  pub stands : blockAt ws p n (length (block p es)) (beginOf es p) ≡ block p es
   pub rises : Rising (λ x. x) (colours (block p es))
-  pub wide : Every (Wide p (length c)) es
+  pub wide : Every (Wide p n) es
 
-pub seen : (ws begins : List ℕ) (p : ℕ) (c : List ℤ) (ps : List Place) (es : List Entry) (next : ℕ) → p < 64 → markingRead ps ws ≡ read es next → Begins es begins → length (rangesAt ps p) ≡ length c → Seen ws begins p c es
+pub seen : (ws begins : List ℕ) (p n : ℕ) (ps : List Place) (es : List Entry) (next : ℕ) → p < 64 → markingRead ps ws ≡ read es next → Begins es begins → length (rangesAt ps p) ≡ n → Seen ws begins p n es
 unfolding markingRead
-seen ws begins p c ps es next h r b l =
+seen ws begins p n ps es next h r b l =
     let e = numbered-read badMarking (readEntries (length ws) ps ws [] 0) es next r in
     let a = entries-read (length ws) ps ws [] 0 es next (omega arith) e in
     let s = entries-stand (length ws) ps ws [] 0 es next (omega arith) e in
-    let w : Every (Wide p (length c)) es = Every-of (Wide p (length c)) es (λ d k q. Every-at (Fitting ps) (s .1) k ∙ ap (λ (i : ℕ). length (rangesAt ps i)) q ∙ l) in
-    let n = begin-next p (length c) es w in
+    let w : Every (Wide p n) es = Every-of (Wide p n) es (λ d k q. Every-at (Fitting ps) (s .1) k ∙ ap (λ (i : ℕ). length (rangesAt ps i)) q ∙ l) in
+    let g = begin-next p n es w in
     let m = b .at (p + 1) (omega arith) in
     let z : 0 + beginOf es p ≡ beginOf es p = omega arith in
     record {
       from = b .at p (omega arith);
-      to = m ∙ n;
+      to = m ∙ g;
       inside = omega (arith, position-size es (pos (p + 1) ∷ []), stand-size ws 0 es (s .0));
-      stands = rw z at (block-stands ws p (length c) es 0 (a .rises) w (s .0));
+      stands = rw z at (block-stands ws p n es 0 (a .rises) w (s .0));
       rises = block-rises p es (a .rises);
       wide = w;
     }
 
 -- ── By the answers of the code ──
 
-module _ (ws begins : List ℕ) (p : ℕ) (c : List ℤ) (few : p < 64) where
+module _ (ws begins : List ℕ) (p n : ℕ) (c : List ℤ) (wide : length c ≡ n) (few : p < 64) where
   -- positions that are none of a marking's
   pub spot-backwards : (r : Spot) → getD begins (p + 1) 0 < getD begins p 0 → IsSpot ws begins p c r
-  spot-backwards r h = record { found = λ ps es next m b l. let s = seen ws begins p c ps es next few m b l in absurd (omega (arith, s .from, s .to)) }
+  spot-backwards r h = record { found = λ ps es next m b l. let s = seen ws begins p n ps es next few m b (l ∙ wide) in absurd (omega (arith, s .from, s .to)) }
 
   pub spot-outside : (r : Spot) → length ws < getD begins (p + 1) 0 → IsSpot ws begins p c r
-  spot-outside r h = record { found = λ ps es next m b l. let s = seen ws begins p c ps es next few m b l in absurd (omega (arith, s .inside)) }
+  spot-outside r h = record { found = λ ps es next m b l. let s = seen ws begins p n ps es next few m b (l ∙ wide) in absurd (omega (arith, s .inside)) }
 
-  module _ {i : ℕ} (r : IsRank (coloursAt ws (length c) ((getD begins (p + 1) 0 - getD begins p 0) / (length c + 1)) (getD begins p 0)) c i) where
-    rows : (es : List Entry) → Seen ws begins p c es → (getD begins (p + 1) 0 - getD begins p 0) / (length c + 1) ≡ length (block p es)
+  module _ {i : ℕ} (r : IsRank (coloursAt ws n ((getD begins (p + 1) 0 - getD begins p 0) / (n + 1)) (getD begins p 0)) c i) where
+    rows : (es : List Entry) → Seen ws begins p n es → (getD begins (p + 1) 0 - getD begins p 0) / (n + 1) ≡ length (block p es)
     rows es s =
         let f = s .from in
         let t = s .to in
-        let d : getD begins (p + 1) 0 - getD begins p 0 ≡ length (block p es) * (length c + 1) = omega arith in
+        let d : getD begins (p + 1) 0 - getD begins p 0 ≡ length (block p es) * (n + 1) = omega arith in
         rw d (mul-div-cancel (length (block p es)) (omega arith))
 
-    ranked : (es : List Entry) → Seen ws begins p c es → i ≡ rankOf (colours (block p es)) c
+    ranked : (es : List Entry) → Seen ws begins p n es → i ≡ rankOf (colours (block p es)) c
     ranked es s =
-        let e : coloursAt ws (length c) ((getD begins (p + 1) 0 - getD begins p 0) / (length c + 1)) (getD begins p 0) ≡ colours (block p es) = rw (rows es s, s .from) (sym (block-colours ws p (length c) (length (block p es)) (beginOf es p)) ∙ ap colours (s .stands)) in
+        let e : coloursAt ws n ((getD begins (p + 1) 0 - getD begins p 0) / (n + 1)) (getD begins p 0) ≡ colours (block p es) = rw (rows es s, s .from) (sym (block-colours ws p n (length (block p es)) (beginOf es p)) ∙ ap colours (s .stands)) in
         r .rank (subst (λ (l : List (List ℤ)). Rising (λ x. x) l) (sym e) (s .rises)) ∙ ap (λ (l : List (List ℤ)). rankOf l c) e
 
-    spot : (count : ℕ) → ((es : List Entry) → Seen ws begins p c es → count ≡ countAt (blockAt ws p (length c) (length (block p es)) (beginOf es p)) i c) → IsSpot ws begins p c (record { at = getD begins p 0 + i * (length c + 1); count = count })
+    spot : (count : ℕ) → ((es : List Entry) → Seen ws begins p n es → count ≡ countAt (blockAt ws p n (length (block p es)) (beginOf es p)) i c) → IsSpot ws begins p c (record { at = getD begins p 0 + i * (n + 1); count = count })
     unfolding colours
-    spot count f = record { found = λ ps es next m b l. by es (seen ws begins p c ps es next few m b l) }
+    spot count f = record { found = λ ps es next m b l. by es (seen ws begins p n ps es next few m b (l ∙ wide)) }
       where
-        by : (es : List Entry) → Seen ws begins p c es → (getD begins p 0 + i * (length c + 1) ≡ positionOf es (key p c)) × (count ≡ countsOf es p c)
+        by : (es : List Entry) → Seen ws begins p n es → (getD begins p 0 + i * (n + 1) ≡ positionOf es (key p c)) × (count ≡ countsOf es p c)
         by es s = (
-          rw (s .from, ranked es s) (sym (position-rank p (length c) c es (s .wide))),
+          rw (s .from, ranked es s) (sym (position-rank p n c es (s .wide))),
           f es s ∙ ap (λ (l : List Entry). countAt l i c) (s .stands) ∙ ap (λ (j : ℕ). countAt (block p es) j c) (ranked es s) ∙ sym (counts-rank p c (block p es) (block-places p es) (s .rises)) ∙ sym (counts-block p c es),
         )
 
-    pub spot-past : (getD begins (p + 1) 0 - getD begins p 0) / (length c + 1) ≤ i → IsSpot ws begins p c (record { at = getD begins p 0 + i * (length c + 1); count = 0 })
-    spot-past h = spot 0 (λ es s. sym (block-past ws p (length c) (length (block p es)) (beginOf es p) i c (rw (rows es s) at h)))
+    pub spot-past : (getD begins (p + 1) 0 - getD begins p 0) / (n + 1) ≤ i → IsSpot ws begins p c (record { at = getD begins p 0 + i * (n + 1); count = 0 })
+    spot-past h = spot 0 (λ es s. sym (block-past ws p n (length (block p es)) (beginOf es p) i c (rw (rows es s) at h)))
 
-    module _ (h : i < (getD begins (p + 1) 0 - getD begins p 0) / (length c + 1)) {t : Bool} (e : t ≡ sameTuple (valuesAt ws (length c) (getD begins p 0 + i * (length c + 1) + 1)) c) where
-      there : (es : List Entry) (s : Seen ws begins p c es) → countAt (blockAt ws p (length c) (length (block p es)) (beginOf es p)) i c ≡ cond t (getD ws (getD begins p 0 + i * (length c + 1)) 0 % 16384) 0
-      there es s = block-count ws p (length c) (length (block p es)) (beginOf es p) i c (rw (rows es s) at h) ∙ rw (e, s .from)
+    module _ (h : i < (getD begins (p + 1) 0 - getD begins p 0) / (n + 1)) {t : Bool} (e : t ≡ sameTuple (valuesAt ws n (getD begins p 0 + i * (n + 1) + 1)) c) where
+      there : (es : List Entry) (s : Seen ws begins p n es) → countAt (blockAt ws p n (length (block p es)) (beginOf es p)) i c ≡ cond t (getD ws (getD begins p 0 + i * (n + 1)) 0 % 16384) 0
+      there es s = block-count ws p n (length (block p es)) (beginOf es p) i c (rw (rows es s) at h) ∙ rw (e, s .from)
 
-      pub spot-found : t ≡ true → IsSpot ws begins p c (record { at = getD begins p 0 + i * (length c + 1); count = getD ws (getD begins p 0 + i * (length c + 1)) 0 % 16384 })
-      spot-found d = spot (getD ws (getD begins p 0 + i * (length c + 1)) 0 % 16384) (λ es s. sym (rw d at (there es s)))
+      pub spot-found : t ≡ true → IsSpot ws begins p c (record { at = getD begins p 0 + i * (n + 1); count = getD ws (getD begins p 0 + i * (n + 1)) 0 % 16384 })
+      spot-found d = spot (getD ws (getD begins p 0 + i * (n + 1)) 0 % 16384) (λ es s. sym (rw d at (there es s)))
 
-      pub spot-differs : t ≡ false → IsSpot ws begins p c (record { at = getD begins p 0 + i * (length c + 1); count = 0 })
+      pub spot-differs : t ≡ false → IsSpot ws begins p c (record { at = getD begins p 0 + i * (n + 1); count = 0 })
       spot-differs d = spot 0 (λ es s. sym (rw d at (there es s)))
 
 -- the rank among as many entries, told by another number

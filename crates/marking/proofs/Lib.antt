@@ -1,6 +1,7 @@
 pub mod Valuing
 pub mod Ranging
 pub mod Comparing
+pub mod Codes
 pub mod Entries
 pub mod Rising
 pub mod Ranked

@@ -1,20 +1,18 @@
 -- The number of colours before one, among rising colours: a colour stands before it exactly where its number is below the rank, so that a
 -- bracket around the rank can be halved; and the entry at the rank is the one of the colour, if there is one.
-use mathlib.Core.Path.{_≡_, refl, sym, ap, _∙_, subst}
+use mathlib.Core.Path.{_≡_, refl, sym, ap, _∙_}
 use mathlib.Core.Logic.{_⊎_, inl, inr}
-use Prim.Native.Nat.{ℕ, zero, suc, _+_, _*_, _-_, _/_, _%_, _≤_, _<_}
-use mathlib.Core.Bool.{Bool, true, false, cond, _&&_}
-use mathlib.Core.List.{List, [], _∷_, _++_, map}
-use borrow.Author.Needs.{needs}
+use Prim.Native.Nat.{ℕ, zero, suc, _+_, _*_, _≤_, _<_}
+use mathlib.Core.Bool.{Bool, true, false, cond}
+use mathlib.Core.List.{List, [], _∷_}
 use native.Mathlib.Nat.{suc-mul, mul-le-mul-right}
 use native.Mathlib.Omega.{arith}
-use lib.Dec.{eqb}
-use lib.IntN.{ℤ, pos}
+use lib.IntN.{ℤ}
 use lib.ListN.{length, getD}
 use Rattle.semantics.specs.Lists.{Every}
-use Rattle.semantics.specs.Order.{sameTuple, before, Rising}
-use Rattle.semantics.proofs.Tests.{false-true, either, not-both, tuple-same, cond-true, cond-false}
-use Rattle.semantics.proofs.Order.{before-trans, before-irrefl, before-total}
+use Rattle.semantics.specs.Order.{before, Rising}
+use Rattle.semantics.proofs.Tests.{either, not-both}
+use Rattle.semantics.proofs.Order.{before-trans}
 use Rattle.marking.specs.Marked.{valuesAt, coloursAt, rankOf, IsRank}
 
 -- ── Ranks ──
@@ -82,52 +80,52 @@ colours-at ws n (suc k) at (suc i) h =
 
 -- ── The bracket ──
 
-pub record Bracket (ws : List ℕ) (from k : ℕ) (c : List ℤ) (low high : ℕ) : Type 0 where
+pub record Bracket (ws : List ℕ) (n from k : ℕ) (c : List ℤ) (low high : ℕ) : Type 0 where
   pub ordered : low ≤ high
   pub inside : high ≤ k
-  pub above : Rising (λ x. x) (coloursAt ws (length c) k from) → low ≤ rankOf (coloursAt ws (length c) k from) c
-  pub below : Rising (λ x. x) (coloursAt ws (length c) k from) → rankOf (coloursAt ws (length c) k from) c ≤ high
+  pub above : Rising (λ x. x) (coloursAt ws n k from) → low ≤ rankOf (coloursAt ws n k from) c
+  pub below : Rising (λ x. x) (coloursAt ws n k from) → rankOf (coloursAt ws n k from) c ≤ high
 
-pub bracket-start : (ws : List ℕ) (from k : ℕ) (c : List ℤ) → Bracket ws from k c 0 k
-bracket-start ws from k c = record {
+pub bracket-start : (ws : List ℕ) (n from k : ℕ) (c : List ℤ) → Bracket ws n from k c 0 k
+bracket-start ws n from k c = record {
   ordered = omega arith;
   inside = omega arith;
   above = λ r. omega arith;
-  below = λ r. let h = rank-length (coloursAt ws (length c) k from) c in omega (arith, colours-length ws (length c) k from);
+  below = λ r. let h = rank-length (coloursAt ws n k from) c in omega (arith, colours-length ws n k from);
 }
 
-module _ {ws : List ℕ} {from k : ℕ} {c : List ℤ} {low high : ℕ} (b : Bracket ws from k c low high) where
-  pub bracket-end : high ≤ low → IsRank (coloursAt ws (length c) k from) c low
+module _ {ws : List ℕ} {n from k : ℕ} {c : List ℤ} {low high : ℕ} (b : Bracket ws n from k c low high) where
+  pub bracket-end : high ≤ low → IsRank (coloursAt ws n k from) c low
   bracket-end h =
       let o = b .ordered in
       let i = b .inside in
       record {
-        inside = omega (arith, colours-length ws (length c) k from);
+        inside = omega (arith, colours-length ws n k from);
         rank = λ r. let x = b .above r in let y = b .below r in omega arith;
       }
 
-  module _ (mid : ℕ) (l : low ≤ mid) (h : mid < high) {t : Bool} (e : t ≡ before (valuesAt ws (length c) (from + mid * (length c + 1) + 1)) c) where
-    at-mid : t ≡ before (getD (coloursAt ws (length c) k from) mid []) c
-    at-mid = let i = b .inside in e ∙ ap (λ (x : List ℤ). before x c) (sym (colours-at ws (length c) k from mid (omega arith)))
+  module _ (mid : ℕ) (l : low ≤ mid) (h : mid < high) {t : Bool} (e : t ≡ before (valuesAt ws n (from + mid * (n + 1) + 1)) c) where
+    at-mid : t ≡ before (getD (coloursAt ws n k from) mid []) c
+    at-mid = let i = b .inside in e ∙ ap (λ (x : List ℤ). before x c) (sym (colours-at ws n k from mid (omega arith)))
 
-    pub bracket-up : t ≡ true → Bracket ws from k c (mid + 1) high
+    pub bracket-up : t ≡ true → Bracket ws n from k c (mid + 1) high
     bracket-up d =
         let i = b .inside in
         record {
           ordered = omega arith;
           inside = i;
-          above = λ r. let x = rank-above (coloursAt ws (length c) k from) c mid r (omega (arith, colours-length ws (length c) k from)) (sym at-mid ∙ d) in omega arith;
+          above = λ r. let x = rank-above (coloursAt ws n k from) c mid r (omega (arith, colours-length ws n k from)) (sym at-mid ∙ d) in omega arith;
           below = b .below;
         }
 
-    pub bracket-down : t ≡ false → Bracket ws from k c low mid
+    pub bracket-down : t ≡ false → Bracket ws n from k c low mid
     bracket-down d =
         let i = b .inside in
         record {
           ordered = l;
           inside = omega arith;
           above = b .above;
-          below = λ r. rank-below (coloursAt ws (length c) k from) c mid r (omega (arith, colours-length ws (length c) k from)) (sym at-mid ∙ d);
+          below = λ r. rank-below (coloursAt ws n k from) c mid r (omega (arith, colours-length ws n k from)) (sym at-mid ∙ d);
         }
 
 -- an entry of a block lies inside the words

@@ -3,7 +3,7 @@
 use mathlib.Core.Path.{_≡_, refl, sym, ap, _∙_, subst}
 use Prim.Native.Nat.{ℕ, zero, suc, _+_, _-_, _≤_, _<_, _%_}
 use mathlib.Core.Logic.{_⊎_, inl, inr}
-use mathlib.Core.Bool.{Bool, true, false, cond, not, _&&_, _||_}
+use mathlib.Core.Bool.{Bool, true, false, cond, not, _&&_}
 use mathlib.Core.List.{List, [], _∷_, _++_, append-nil, append-assoc}
 use borrow.Author.Needs.{needs}
 use borrow.Author.Tests.{leb-true, leb-false, lt-leb, le-leb, lt-ltb, le-ltb, ltb-true, ne-eqb, eq-eqb, eqb-true, eqb-false, not-true, not-false}
@@ -14,9 +14,9 @@ use lib.ListN.{length, getD, set}
 use lib.Seq.{getD-set-same, getD-set-other}
 use Rattle.semantics.specs.Order.{sameInteger, before}
 use Rattle.semantics.specs.Lists.{Every}
-use Rattle.semantics.specs.Refusal.{badWord, badMarking}
-use Rattle.semantics.specs.Word.{kind, payload, bits, only}
-use Rattle.semantics.specs.Reading.{Reading, read, refused, then, demand, numbered, word, valuesIn}
+use Rattle.semantics.specs.Refusal.{badMarking}
+use Rattle.semantics.specs.Word.{kind, payload, bits}
+use Rattle.semantics.specs.Reading.{Reading, read, refused, then, numbered, word, valuesIn}
 use Rattle.semantics.specs.Net.{Place, rangesAt}
 use Rattle.semantics.specs.Marking.{Entry, key, readEntry, rising, readEntries}
 use Rattle.semantics.proofs.Spans.{Span, then-read, read-same, refused-read, word-read, drop-first}

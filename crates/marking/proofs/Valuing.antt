@@ -1,21 +1,19 @@
 -- The rules of passing over values: what is still ahead is what was ahead at first; each turn takes one word and one range.
 use mathlib.Core.Path.{_≡_, refl, sym, ap, _∙_}
 use Prim.Native.Nat.{ℕ, suc, _+_, _-_, _≤_, _<_, _/_, _%_, _^_}
-use mathlib.Core.Bool.{Bool, true, false, not, _&&_}
-use mathlib.Core.List.{List, [], _∷_}
+use mathlib.Core.Bool.{Bool, true, false, not}
+use mathlib.Core.List.{List, _∷_}
 use borrow.Author.Needs.{needs}
 use borrow.Author.Tests.{lt-ltb, not-true, not-false}
 use native.Mathlib.Omega.{arith}
 use lib.IntN.{ℤ}
 use lib.Signed.{leZ}
-use lib.ListN.{length, getD}
+use lib.ListN.{getD}
 use Rattle.semantics.specs.Refusal.{badWord}
 use Rattle.semantics.specs.Word.{signed, Range}
 use Rattle.semantics.specs.Reading.{Reading, read, refused, then, demand, word, valuesIn}
 use Rattle.word.specs.Fields.{rangeWord}
-use Rattle.expression.specs.declared.read.Skipped.{Skipped}
-use Rattle.expression.specs.declared.read.Skipped.the-variants.{Next, Refused}
-use Rattle.expression.specs.Skip.{forget, skipped}
+use Rattle.expression.specs.Skip.{forget}
 use Rattle.net.specs.declared.take.Taken.{Taken}
 use Rattle.net.specs.declared.take.Taken.the-variants.{Word, Refused as TakeRefused}
 use Rattle.net.specs.Skim.{fitsKind}

@@ -13,7 +13,6 @@ use Rattle.semantics.specs.Reading.{Reading, read, refused, then, valuesIn, end
 use Rattle.semantics.specs.Net.{Place, rangesAt}
 use Rattle.semantics.specs.Order.{before, Rising}
 use Rattle.semantics.specs.Marking.{Entry, key, readEntries, countsOf}
-use Rattle.expression.specs.declared.read.Skipped.{Skipped}
 use Rattle.expression.specs.declared.read.Skipped.the-variants.{Refused}
 use Rattle.expression.specs.Skip.{forget, skipped}
 use Rattle.marking.specs.declared.entry.EntryRead.{EntryRead}

@@ -1,22 +1,24 @@
 // The count of a colour on a place, found by bisection among that place's entries.
-use crate::order::colour_before;
-use crate::order::colour_same;
+use crate::code::code_before;
+use crate::code::code_same;
 ghost use mathlib.Core.Path.{_≡_};
-ghost use Prim.Native.Nat.{_≤_, _<_, _+_, _*_, _/_};
+ghost use Prim.Native.Nat.{_≤_, _<_, _+_, _*_, _/_, _^_};
 ghost use lib.ListN.{length};
+ghost use Rattle.marking.specs.Code.{coloured};
 ghost use Rattle.marking.specs.Marked.{coloursAt, IsRank, IsSpot};
 
-// Of k entries from a position on, each a word and the values of a colour, the number of those that stand before a colour.
-fn rank(words: &[u32], from: usize, k: usize, colour: &[i32]) -> usize
-    requires { ⌜ from + k * (length (now colour) + 1) ≤ length (now words) ⌝ }
-    ensures { λ r. ⌜ IsRank (coloursAt (now (words .entry)) (length (now (colour .entry))) k from) (now (colour .entry)) r ⌝ }
+// Of k entries from a position on, each a word and the n values of a colour, the number of those that stand before the colour of a code.
+fn rank(words: &[u32], from: usize, k: usize, n: usize, code: u64) -> usize
+    requires { ⌜ from + k * (n + 1) ≤ length (now words) ⌝ }
+    requires { ⌜ (n ≤ 4) × (code < 16384 ^ n) ⌝ }
+    ensures { λ r. ⌜ IsRank (coloursAt (now (words .entry)) n k from) (coloured n code) r ⌝ }
 {
-    let size = colour.len() + 1;
+    let size = n + 1;
     let mut low = 0;
     let mut high = k;
     while low < high {
         let mid = low + (high - low) / 2;
-        if colour_before(words, from + mid * size + 1, colour) {
+        if code_before(words, from + mid * size + 1, n, code) {
             low = mid + 1;
         } else {
             high = mid;
@@ -45,11 +47,12 @@ pub struct Spot {
     pub count: u32,
 }
 
-// The entry of a place and a colour of as many components as the place has; `begins` has where the entries of each place begin.
-pub fn find(words: &[u32], begins: &[usize], place: usize, colour: &[i32]) -> Spot
+// The entry of a place and the colour of a code, of as many components as the place has; `begins` has where the entries of each place begin.
+pub fn find(words: &[u32], begins: &[usize], place: usize, n: usize, code: u64) -> Spot
     requires { ⌜ place + 1 < length (now begins) ⌝ }
     requires { ⌜ place < 64 ⌝ }
-    ensures { λ r. ⌜ IsSpot (now (words .entry)) (now (begins .entry)) place (now (colour .entry)) r ⌝ }
+    requires { ⌜ (n ≤ 4) × (code < 16384 ^ n) ⌝ }
+    ensures { λ r. ⌜ IsSpot (now (words .entry)) (now (begins .entry)) place (coloured n code) r ⌝ }
 {
     let from = begins[place];
     let to = begins[place + 1];
@@ -59,12 +62,12 @@ pub fn find(words: &[u32], begins: &[usize], place: usize, colour: &[i32]) -> Sp
     if words.len() < to {
         return Spot { at: from, count: 0 };
     }
-    let size = colour.len() + 1;
+    let size = n + 1;
     let k = entries(to - from, size);
-    let i = rank(words, from, k, colour);
+    let i = rank(words, from, k, n, code);
     let at = from + i * size;
     if i < k {
-        if colour_same(words, at + 1, colour) {
+        if code_same(words, at + 1, n, code) {
             return Spot {
                 at: at,
                 count: words[at] % 16384,

@@ -7,6 +7,8 @@ pub mod values;
 pub mod range;
 // The order of entries and colours.
 pub mod order;
+// Colours as numbers.
+pub mod code;
 // One entry of a marking.
 pub mod entry;
 // A whole marking: where the entries of each place begin.

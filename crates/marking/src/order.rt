@@ -1,11 +1,11 @@
-// The order of colours: of two entries of a marking, and of an entry and a colour at hand.
+// The order of two entries of a marking, by their colours.
 use word::fields::signed;
 use word::number::equal;
 use word::number::less;
 ghost use mathlib.Core.Path.{_≡_};
 ghost use Prim.Native.Nat.{_≤_, _+_};
 ghost use lib.ListN.{length};
-ghost use Rattle.semantics.specs.Order.{before, sameTuple};
+ghost use Rattle.semantics.specs.Order.{before};
 ghost use Rattle.marking.specs.Marked.{valuesAt};
 
 // Whether the n VALUE words at one position stand before those at another.
@@ -27,39 +27,4 @@ pub fn values_before(words: &[u32], a: usize, b: usize, n: usize) -> bool
         i += 1;
     }
     false
-}
-
-// Whether the VALUE words at a position stand before a colour of as many components.
-pub fn colour_before(words: &[u32], at: usize, colour: &[i32]) -> bool
-    requires { ⌜ at + length (now colour) ≤ length (now words) ⌝ }
-    ensures { λ r. ⌜ r ≡ before (valuesAt (now (words .entry)) (length (now (colour .entry))) at) (now (colour .entry)) ⌝ }
-{
-    let mut i = 0;
-    while i < colour.len() {
-        let x = signed(words[at + i]);
-        let y = colour[i];
-        if less(x, y) {
-            return true;
-        }
-        if !equal(x, y) {
-            return false;
-        }
-        i += 1;
-    }
-    false
-}
-
-// Whether the VALUE words at a position are a colour.
-pub fn colour_same(words: &[u32], at: usize, colour: &[i32]) -> bool
-    requires { ⌜ at + length (now colour) ≤ length (now words) ⌝ }
-    ensures { λ r. ⌜ r ≡ sameTuple (valuesAt (now (words .entry)) (length (now (colour .entry))) at) (now (colour .entry)) ⌝ }
-{
-    let mut i = 0;
-    while i < colour.len() {
-        if !equal(signed(words[at + i]), colour[i]) {
-            return false;
-        }
-        i += 1;
-    }
-    true
 }

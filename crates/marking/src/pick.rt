@@ -2,7 +2,7 @@
 use word::fields::kind;
 use word::fields::payload;
 ghost use mathlib.Core.Path.{_≡_};
-ghost use mathlib.Core.Bool.{not, _&&_};
+ghost use mathlib.Core.Bool.{_&&_};
 ghost use lib.Dec.{leb};
 ghost use Rattle.semantics.specs.Marking.{isPick, pickTransition, firstUnknown, firstMalformed};
 ghost use Rattle.marking.specs.Picks.{firstPick};

@@ -1,181 +1,144 @@
--- The rules of covering: flows of one key are told apart component by component, summed one after the other, and each sum is held against
--- the count that is found. What is still ahead is what was ahead at first.
-use mathlib.Core.Path.{_≡_, refl, sym, ap, _∙_, subst}
-use mathlib.Core.Logic.{_⊎_, inl, inr}
-use Prim.Native.Nat.{ℕ, zero, suc, _+_, _-_, _*_, _≤_, _<_, _^_}
+-- The rules of covering: the amounts of a key are summed one after the other, and each sum is held against the count that is found. What is
+-- still ahead is what was ahead at first.
+use mathlib.Core.Path.{_≡_, refl, sym, _∙_}
+use Prim.Native.Nat.{ℕ, zero, suc, _+_, _*_, _≤_, _<_, _^_}
 use mathlib.Core.Bool.{Bool, true, false, cond, not, _&&_}
-use mathlib.Core.List.{List, [], _∷_, map}
-use borrow.Author.Needs.{needs}
-use borrow.Author.Tests.{ne-eqb, eq-eqb, le-leb, lt-leb, not-true, not-false}
+use mathlib.Core.List.{List, [], _∷_}
+use borrow.Author.Tests.{eq-eqb, ne-eqb, le-leb, lt-leb, not-true, not-false}
 use native.Mathlib.Numerals.{add-one}
 use native.Mathlib.Omega.{arith}
 use lib.Dec.{eqb, leb}
-use lib.IntN.{ℤ, pos}
-use lib.ListN.{length, getD, take, drop, length-map, drop-of-length-le}
-use lib.Seq.{length-take-le, getD-take, drop-cons}
+use lib.ListN.{length, getD, take, drop, drop-of-length-le}
+use lib.Seq.{drop-cons}
 use Rattle.semantics.specs.Lists.{Every, every}
 use Rattle.semantics.specs.Reading.{read}
 use Rattle.semantics.specs.Net.{Place, rangesAt}
-use Rattle.semantics.specs.Order.{sameInteger, sameTuple}
-use Rattle.semantics.specs.Marking.{Entry, key, countsOf}
-use Rattle.semantics.specs.Enabling as enabling
-use Rattle.semantics.specs.Enabling.{total, covers}
-use Rattle.semantics.proofs.Tests.{either, tuple-same, false-true}
+use Rattle.semantics.specs.Marking.{Entry, readMarking, countsOf}
+use Rattle.semantics.specs.Enabling.{Flow, total, covers}
+use Rattle.semantics.proofs.Tests.{false-true}
+use Rattle.semantics.proofs.Markings.{marking-proper}
+use Rattle.net.specs.Places.{placesAt}
+use Rattle.net.proofs.Placed.{width-at}
 use Rattle.marking.specs.declared.find.Spot.{Spot}
 use Rattle.marking.specs.Marked.{markingRead, Begins, IsSpot}
-use Rattle.marking.proofs.Comparing.{Left, left-start, left-end, same-differs, same-turn}
-use Rattle.occurrence.specs.declared.flow.Flow.{Flow}
-use Rattle.occurrence.specs.declared.flow.Flows.{Flows}
-use Rattle.occurrence.specs.Answers.{flowOf, flowsOf, sameKey, FlowBounds, FlowsFit, Fitted, IsCovered}
-
--- ── Two flows ──
-
-abbrev colourOf : Flow → List ℤ
-colourOf f = take (f .width) (f .colour)
-
-pub colour-length : {f : Flow} → FlowBounds f → length (colourOf f) ≡ f .width
-colour-length {f} p =
-    let n = p .narrow in
-    let l = p .full in
-    length-take-le (f .width) (f .colour) (omega arith)
-
-module _ {a b : Flow} (p : FlowBounds a) (q : FlowBounds b) where
-  pub key-place : (a .place ≡ b .place → ⊥) → false ≡ sameKey (flowOf a) (flowOf b)
-  key-place d = rw (ne-eqb (a .place) (b .place) d)
-
-  pub key-width : a .place ≡ b .place → (a .width ≡ b .width → ⊥) → false ≡ sameKey (flowOf a) (flowOf b)
-  key-width e d = rw (eq-eqb (a .place) (b .place) e) (by (either (sameTuple (colourOf a) (colourOf b))))
-    where
-      by : (sameTuple (colourOf a) (colourOf b) ≡ true) ⊎ (sameTuple (colourOf a) (colourOf b) ≡ false) → false ≡ sameTuple (colourOf a) (colourOf b)
-      by (inl t) = absurd (d (sym (colour-length p) ∙ ap length (tuple-same (colourOf a) (colourOf b) t) ∙ colour-length q))
-      by (inr t) = sym t
-
--- the i first components are the same
-pub record KeyLeft (a b : Flow) (i : ℕ) : Type 0 where
-  pub left : Left sameTuple (colourOf a) (colourOf b) i
-
-module _ {a b : Flow} (p : FlowBounds a) (q : FlowBounds b) (w : a .width ≡ b .width) where
-  pub key-start : KeyLeft a b 0
-  key-start = record { left = left-start sameTuple (colourOf a) (colourOf b) (colour-length q ∙ sym w ∙ sym (colour-length p)) }
-
-  module _ (e : a .place ≡ b .place) {i : ℕ} (l : KeyLeft a b i) where
-    pub key-end : a .width ≤ i → true ≡ sameKey (flowOf a) (flowOf b)
-    unfolding sameTuple
-    key-end h = rw (eq-eqb (a .place) (b .place) e) (left-end (l .left) (rw (colour-length p) h))
-
-    module _ (h : i < a .width) {x y : ℤ} (f : x ≡ getD (a .colour) i (pos 0)) (g : y ≡ getD (b .colour) i (pos 0)) {u : Bool} (s : u ≡ sameInteger x y) where
-      at-left : x ≡ getD (colourOf a) i (pos 0)
-      at-left = f ∙ sym (getD-take (a .width) (a .colour) i (pos 0) h)
-
-      at-right : y ≡ getD (colourOf b) i (pos 0)
-      at-right = g ∙ sym (getD-take (b .width) (b .colour) i (pos 0) (rw w at h))
-
-      pub key-differs : not u ≡ true → false ≡ sameKey (flowOf a) (flowOf b)
-      key-differs d = rw (eq-eqb (a .place) (b .place) e) (same-differs (l .left) (rw (colour-length p) h) at-left at-right (sym s ∙ not-true _ d))
-
-      pub key-turn : not u ≡ false → KeyLeft a b (i + 1)
-      key-turn d = record { left = same-turn (l .left) (rw (colour-length p) h) at-left at-right (sym s ∙ not-false _ d) }
-
--- what stands past the end of an array of flows
-abbrev pub missing : Flow
-missing = record { place = 0; amount = 0; width = 0; colour = [] }
+use Rattle.marking.proofs.Codes.{coloured-length}
+use Rattle.arcs.specs.declared.gather.Gathered.{Gathered}
+use Rattle.arcs.specs.Flow.{guardAt, flowsAt}
+use Rattle.arcs.specs.Keys.{keyPlace, keyCode, widthOf, keyColour, keyFlows, KeyFits, IsGathered, sumOf}
+use Rattle.arcs.proofs.Keyed.{Ranged, keys-total, covers-gathered}
+use Rattle.occurrence.specs.Answers.{IsCovered, IsEnabledAt, IsTaken}
 
 -- ── Sums ──
 
--- the sum of the i first flows, and what the others add
-pub record Summed (r : Flows) (f : Flow) (i sum : ℕ) : Type 0 where
-  pub inside : i ≤ r .n
-  pub same : sum + total (drop i (flowsOf r)) (f .place) (colourOf f) ≡ total (flowsOf r) (f .place) (colourOf f)
-  pub bounded : sum ≤ i * 2 ^ 32
+-- the amounts of a key among the j first, and what the others add
+pub record Summing (keys amounts : List ℕ) (k j sum : ℕ) : Type 0 where
+  pub inside : j ≤ length keys
+  pub same : sum + sumOf (drop j keys) (drop j amounts) k ≡ sumOf keys amounts k
+  pub bounded : sum ≤ j * 2 ^ 32
 
-pub flows-length : {r : Flows} → FlowsFit r → length (flowsOf r) ≡ r .n
-flows-length {r} p =
-    let n = p .few in
-    let l = p .room in
-    length-map (take (r .n) (r .at)) flowOf ∙ length-take-le (r .n) (r .at) (omega arith)
+pub summing-start : (keys amounts : List ℕ) (k : ℕ) → Summing keys amounts k 0 0
+summing-start keys amounts k = record { inside = omega arith; same = omega arith; bounded = omega arith }
 
-map-at : (l : List Flow) (i : ℕ) (d : Flow) (e : enabling.Flow) → i < length l → getD (map flowOf l) i e ≡ flowOf (getD l i d)
-map-at [] i d e h = absurd (omega arith)
-map-at (x ∷ xs) zero d e h = refl
-map-at (x ∷ xs) (suc i) d e h = map-at xs i d e (omega arith)
+module _ {keys amounts : List ℕ} {k j sum : ℕ} (a : Summing keys amounts k j sum) where
+  pub summing-end : length keys ≤ j → sum ≡ sumOf keys amounts k
+  unfolding sumOf
+  summing-end h = let e : drop j keys ≡ [] = drop-of-length-le keys {i = j} h in let s = rw e at (a .same) in omega arith
 
-flow-at : {r : Flows} → FlowsFit r → (i : ℕ) (d : Flow) (e : enabling.Flow) → i < r .n → getD (flowsOf r) i e ≡ flowOf (getD (r .at) i d)
-flow-at {r} p i d e h =
-    let n = p .few in
-    let l = p .room in
-    map-at (take (r .n) (r .at)) i d e (rw (length-take-le (r .n) (r .at) (omega arith)) h) ∙ ap flowOf (getD-take (r .n) (r .at) i d h)
+  module _ (h : j < length keys) (l : length amounts ≡ length keys) where
+    one-more : sum + (cond (eqb (getD keys j 0) k) (getD amounts j 0) 0 + sumOf (drop (j + 1) keys) (drop (j + 1) amounts) k) ≡ sumOf keys amounts k
+    unfolding sumOf
+    one-more = rw (add-one j) (rw (drop-cons keys j 0 h, drop-cons amounts j 0 (omega arith)) at (a .same))
 
-pub flow-bounds : {r : Flows} → FlowsFit r → (i : ℕ) (d : Flow) → i < r .n → FlowBounds (getD (r .at) i d)
-flow-bounds {r} p i d h =
-    let n = p .few in
-    let l = p .room in
-    subst FlowBounds (getD-take (r .n) (r .at) i d h) (every-at (take (r .n) (r .at)) i (p .each) (rw (length-take-le (r .n) (r .at) (omega arith)) h))
-  where
-    every-at : (l : List Flow) (i : ℕ) → Every FlowBounds l → i < length l → FlowBounds (getD l i d)
-    every-at [] i e h = absurd (omega arith)
-    every-at (x ∷ xs) zero e h = e .0
-    every-at (x ∷ xs) (suc i) e h = every-at xs i (e .1) (omega arith)
-
--- the flows from one on
-pub flow-next : {r : Flows} → FlowsFit r → {i : ℕ} → i < r .n → (d : Flow) → drop i (flowsOf r) ≡ flowOf (getD (r .at) i d) ∷ drop (i + 1) (flowsOf r)
-flow-next {r} p {i} h d =
-    drop-cons (flowsOf r) i (flowOf d) (rw (flows-length p) h)
-    ∙ ap (λ (x : enabling.Flow). x ∷ drop (suc i) (flowsOf r)) (flow-at p i d (flowOf d) h)
-    ∙ ap (λ (k : ℕ). flowOf (getD (r .at) i d) ∷ drop k (flowsOf r)) (sym (add-one i))
-
-pub summed-start : (r : Flows) (f : Flow) → Summed r f 0 0
-summed-start r f = record { inside = omega arith; same = omega arith; bounded = omega arith }
-
-module _ {r : Flows} (p : FlowsFit r) {f : Flow} {i sum : ℕ} (a : Summed r f i sum) where
-  pub summed-end : r .n ≤ i → sum ≡ total (flowsOf r) (f .place) (colourOf f)
-  unfolding total
-  summed-end h =
-      let e : drop i (flowsOf r) ≡ [] = drop-of-length-le (flowsOf r) {i = i} (omega (arith, flows-length p)) in
-      let s = rw e at (a .same) in
-      omega arith
-
-  module _ (h : i < r .n) (d : Flow) where
-    one-more : sum + (cond (sameKey (flowOf (getD (r .at) i d)) (flowOf f)) (getD (r .at) i d .amount) 0 + total (drop (i + 1) (flowsOf r)) (f .place) (colourOf f)) ≡ total (flowsOf r) (f .place) (colourOf f)
-    unfolding total
-    one-more = ap (λ (l : List enabling.Flow). sum + total l (f .place) (colourOf f)) (sym (flow-next p h d)) ∙ a .same
-
-    pub summed-turn : {more : ℕ} → more ≡ cond (sameKey (flowOf (getD (r .at) i d)) (flowOf f)) (getD (r .at) i d .amount) 0 → more < 2 ^ 32 → Summed r f (i + 1) (sum + more)
-    summed-turn e b =
+    pub summing-more : {x n : ℕ} → x ≡ getD keys j 0 → x ≡ k → n ≡ getD amounts j 0 → n < 2 ^ 32 → Summing keys amounts k (j + 1) (sum + n)
+    summing-more {x} {n} e d f b =
         let g = a .bounded in
-        let k = one-more in
-        record { inside = omega arith; same = omega (arith, e); bounded = omega arith }
+        let s = rw (← e, d, eq-eqb k k refl, ← f) at one-more in
+        record { inside = omega arith; same = omega arith; bounded = omega arith }
+
+    pub summing-same : {x : ℕ} → x ≡ getD keys j 0 → (x ≡ k → ⊥) → Summing keys amounts k (j + 1) sum
+    summing-same {x} e d =
+        let g = a .bounded in
+        let s = rw (← e, ne-eqb x k d) at one-more in
+        record { inside = omega arith; same = omega arith; bounded = omega arith }
 
 -- ── Covering ──
 
--- the i first flows are covered
-pub record Covering (r : Flows) (ws begins : List ℕ) (i : ℕ) : Type 0 where
-  pub inside : i ≤ r .n
-  pub same : (ps : List Place) (es : List Entry) (next : ℕ) → markingRead ps ws ≡ read es next → Begins es begins → Every (Fitted ps) (flowsOf r) → every (λ f. leb (total (flowsOf r) (f .place) (f .colour)) (countsOf es (f .place) (f .colour))) (drop i (flowsOf r)) ≡ covers (countsOf es) (flowsOf r)
+-- a flow is covered, by all of them
+abbrev held : List Entry → List Flow → Flow → Bool
+held es fs f = leb (total fs (f .place) (f .colour)) (countsOf es (f .place) (f .colour))
 
-pub covering-start : (r : Flows) (ws begins : List ℕ) → Covering r ws begins 0
+-- the i first keys are covered
+pub record Covering (ws ps keys amounts ms begins : List ℕ) (i : ℕ) : Type 0 where
+  pub inside : i ≤ length keys
+  pub same : (places : List Place) → places ≡ placesAt ws ps → (es : List Entry) (next : ℕ) → markingRead places ms ≡ read es next → Begins es begins → every (held es (keyFlows ws ps keys amounts)) (keyFlows ws ps (drop i keys) (drop i amounts)) ≡ covers (countsOf es) (keyFlows ws ps keys amounts)
+
+pub covering-start : (ws ps keys amounts ms begins : List ℕ) → Covering ws ps keys amounts ms begins 0
 unfolding covers
-covering-start r ws begins = record { inside = omega arith; same = λ ps es next m b g. refl }
+covering-start ws ps keys amounts ms begins = record { inside = omega arith; same = λ places e es next m b. refl }
 
-module _ {r : Flows} {ws begins : List ℕ} (p : FlowsFit r) {i : ℕ} (a : Covering r ws begins i) where
-  pub covering-end : r .n ≤ i → IsCovered r ws begins true
-  unfolding every
-  covering-end h = record { covered = λ ps es next m b g. let e : drop i (flowsOf r) ≡ [] = drop-of-length-le (flowsOf r) {i = i} (omega (arith, flows-length p)) in rw e at (a .same ps es next m b g) }
+-- a key among others fits
+pub fits-in : {ws ps : List ℕ} (keys : List ℕ) (i : ℕ) → Every (KeyFits ws ps) keys → i < length keys → KeyFits ws ps (getD keys i 0)
+fits-in [] i e h = absurd (omega arith)
+fits-in (k ∷ ks) zero e h = e .0
+fits-in (k ∷ ks) (suc i) e h = fits-in ks i (e .1) (omega arith)
 
-  module _ (h : i < r .n) (d : Flow) {s : Spot} (x : IsSpot ws begins (getD (r .at) i d .place) (colourOf (getD (r .at) i d)) s) {sum : ℕ} (y : sum ≡ total (flowsOf r) (getD (r .at) i d .place) (colourOf (getD (r .at) i d))) where
-    next-one : (ps : List Place) (es : List Entry) (next : ℕ) → markingRead ps ws ≡ read es next → Begins es begins → Every (Fitted ps) (flowsOf r) → (leb sum (s .count) && every (λ f. leb (total (flowsOf r) (f .place) (f .colour)) (countsOf es (f .place) (f .colour))) (drop (i + 1) (flowsOf r))) ≡ covers (countsOf es) (flowsOf r)
-    unfolding every
-    next-one ps es next m b g =
-        let q : Fitted ps (flowOf (getD (r .at) i d)) = subst (Fitted ps) (flow-at p i d (flowOf d) h) (every-fits (flowsOf r) i g (rw (flows-length p) h)) in
-        let c = x .found ps es next m b q .1 in
-        rw (y, c) (sym (ap (every (λ f. leb (total (flowsOf r) (f .place) (f .colour)) (countsOf es (f .place) (f .colour)))) (flow-next p h d)) ∙ a .same ps es next m b g)
-      where
-        every-fits : (l : List enabling.Flow) (j : ℕ) → Every (Fitted ps) l → j < length l → Fitted ps (getD l j (flowOf d))
-        every-fits [] j e k = absurd (omega arith)
-        every-fits (z ∷ zs) zero e k = e .0
-        every-fits (z ∷ zs) (suc j) e k = every-fits zs j (e .1) (omega arith)
+-- the colour of a key has as many components as its place
+pub key-width : {ws ps : List ℕ} {k : ℕ} → KeyFits ws ps k → length (rangesAt (placesAt ws ps) (keyPlace k)) ≡ length (keyColour ws ps k)
+key-width {ws} {ps} {k} x = width-at ws ps (keyPlace k) (x .there) ∙ sym (coloured-length (widthOf ws ps (keyPlace k)) (keyCode k))
 
-    pub covering-short : s .count < sum → IsCovered r ws begins false
-    covering-short k = record { covered = λ ps es next m b g. rw (lt-leb sum (s .count) k) at (next-one ps es next m b g) }
+module _ {ws ps keys amounts ms begins : List ℕ} {i : ℕ} (a : Covering ws ps keys amounts ms begins i) where
+  pub covering-end : length keys ≤ i → IsCovered ws ps keys amounts ms begins true
+  unfolding every keyFlows
+  covering-end h = record { covered = λ places e es next m b. let d : drop i keys ≡ [] = drop-of-length-le keys {i = i} h in rw d at (a .same places e es next m b) }
 
-    pub covering-turn : sum ≤ s .count → Covering r ws begins (i + 1)
-    covering-turn k = record { inside = omega arith; same = λ ps es next m b g. rw (le-leb sum (s .count) k) at (next-one ps es next m b g) }
+  module _ (h : i < length keys) (l : length amounts ≡ length keys) (fit : Every (KeyFits ws ps) keys) {s : Spot} (x : IsSpot ms begins (keyPlace (getD keys i 0)) (keyColour ws ps (getD keys i 0)) s) {sum : ℕ} (y : sum ≡ sumOf keys amounts (getD keys i 0)) where
+    next-one : (places : List Place) → places ≡ placesAt ws ps → (es : List Entry) (next : ℕ) → markingRead places ms ≡ read es next → Begins es begins → (leb sum (s .count) && every (held es (keyFlows ws ps keys amounts)) (keyFlows ws ps (drop (i + 1) keys) (drop (i + 1) amounts))) ≡ covers (countsOf es) (keyFlows ws ps keys amounts)
+    unfolding every keyFlows
+    next-one places e es next m b =
+        let f = fits-in keys i fit h in
+        let c = x .found places es next m b (rw e (key-width f)) .1 in
+        rw (y, c, ← keys-total keys amounts fit f, add-one i) (rw (drop-cons keys i 0 h, drop-cons amounts i 0 (omega arith)) at (a .same places e es next m b))
+
+    pub covering-short : s .count < sum → IsCovered ws ps keys amounts ms begins false
+    covering-short k = record { covered = λ places e es next m b. rw (lt-leb sum (s .count) k) at (next-one places e es next m b) }
+
+    pub covering-turn : sum ≤ s .count → Covering ws ps keys amounts ms begins (i + 1)
+    covering-turn k = record { inside = omega arith; same = λ places e es next m b. rw (le-leb sum (s .count) k) at (next-one places e es next m b) }
+
+-- ── Input arcs ──
+
+-- a marking has only colours that their places can have
+marking-ranged : (ws ps : List ℕ) (places : List Place) → places ≡ placesAt ws ps → (ms : List ℕ) (es : List Entry) (next : ℕ) → markingRead places ms ≡ read es next → Ranged ws ps (countsOf es)
+unfolding markingRead readMarking
+marking-ranged ws ps places e ms es next m p c h = rw (← e) (marking-proper (record { places = places; transitions = [] }) ms es next m .ranged p c h)
+
+-- ── Enabling ──
+
+module _ (ws ps gs is ms begins bs : List ℕ) where
+  none-taken : {keys amounts : List ℕ} → IsEnabledAt ws ps gs is ms begins bs false → IsTaken ws ps gs is ms begins bs (record { some = false; n = 0 }) keys amounts
+  none-taken e = record { enabled = e; gathered = λ t. false-true t }
+
+  module _ {g : Bool} (h : g ≡ guardAt ws bs gs) {keys amounts : List ℕ} where
+    pub taken-unguarded : not g ≡ true → IsTaken ws ps gs is ms begins bs (record { some = false; n = 0 }) keys amounts
+    taken-unguarded d = none-taken (record { enabled = λ places e es next m b. let k : guardAt ws bs gs ≡ false = sym h ∙ not-true _ d in rw k })
+
+    module _ (d : not g ≡ false) {r : Gathered} (x : IsGathered ws ps bs is r keys amounts) where
+      guarded : guardAt ws bs gs ≡ true
+      guarded = sym h ∙ not-false _ d
+
+      pub taken-unmoved : not (r .some) ≡ true → IsTaken ws ps gs is ms begins bs (record { some = false; n = 0 }) keys amounts
+      taken-unmoved f = none-taken (record { enabled = λ places e es next m b. rw (guarded, covers-gathered ws ps (countsOf es) (marking-ranged ws ps places e ms es next m) (flowsAt ws ps bs is), ← x .same, not-true (r .some) f) })
+
+      module _ (f : not (r .some) ≡ false) {u : Bool} (c : IsCovered ws ps (take (r .n) keys) (take (r .n) amounts) ms begins u) where
+        enabled-by : IsEnabledAt ws ps gs is ms begins bs u
+        enabled-by = record { enabled = λ places e es next m b. rw (guarded, covers-gathered ws ps (countsOf es) (marking-ranged ws ps places e ms es next m) (flowsAt ws ps bs is), ← x .same, not-false (r .some) f) (c .covered places e es next m b) }
+
+        pub taken-uncovered : not u ≡ true → IsTaken ws ps gs is ms begins bs (record { some = false; n = 0 }) keys amounts
+        taken-uncovered k = none-taken (rw (not-true u k) at enabled-by)
+
+        pub taken-covered : not u ≡ false → IsTaken ws ps gs is ms begins bs r keys amounts
+        taken-covered k = record { enabled = rw (not-false (r .some) f) (rw (not-false u k) at enabled-by); gathered = λ t. x }
+
+-- at other positions that are the same
+pub enabled-same : {ws ps gs is ms begins bs gs′ is′ : List ℕ} {r : Bool} → gs ≡ gs′ → is ≡ is′ → IsEnabledAt ws ps gs is ms begins bs r → IsEnabledAt ws ps gs′ is′ ms begins bs r
+enabled-same e f t = rw (← e, ← f) t

@@ -20,7 +20,7 @@ use Rattle.expression.proofs.Laws.{lent-bound}
 use Rattle.net.specs.Places.{placesAt}
 use Rattle.net.proofs.Located.{At, transition-parts}
 use Rattle.marking.specs.Marked.{markingRead, Begins}
-use Rattle.occurrence.specs.Flow.{guardAt, flowsAt}
+use Rattle.arcs.specs.Flow.{guardAt, flowsAt}
 use Rattle.occurrence.specs.Answers.{IsEnabledAt}
 
 -- ── Arcs and conjuncts at their positions ──

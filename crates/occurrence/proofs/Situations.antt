@@ -1,21 +1,20 @@
 -- The rules of a situation: net, then transition, then marking. Each is told by its index; what the indexes have is what semantics reads,
 -- since each structure stands at its position.
 use mathlib.Core.Path.{_≡_, refl, sym, ap, _∙_, subst}
-use mathlib.Core.Logic.{_⊎_, inl, inr}
-use Prim.Native.Nat.{ℕ, zero, suc, min, _+_, _≤_, _<_}
+use Prim.Native.Nat.{ℕ, zero, suc, min, _≤_, _<_}
 use mathlib.Core.List.{List, [], _∷_, map}
-use mathlib.Core.Option.{Option, none, some}
+use mathlib.Core.Option.{none, some}
 use native.Mathlib.Omega.{arith}
 use lib.ListN.{length, getD, getElem?, take, length-map, length-take}
 use lib.Seq.{getD-take}
-use Rattle.semantics.specs.Refusal.{noTransition, badMarking}
+use Rattle.semantics.specs.Refusal.{noTransition}
 use Rattle.semantics.specs.Lists.{Every}
-use Rattle.semantics.specs.Reading.{Reading, read, refused, then}
-use Rattle.semantics.specs.Net.{Place, Transition, Net}
+use Rattle.semantics.specs.Reading.{Reading, read, refused}
+use Rattle.semantics.specs.Net.{Transition, Net}
 use Rattle.semantics.specs.ReadNet.{readNet, readTransition}
 use Rattle.semantics.specs.Plan.{acceptNet}
-use Rattle.semantics.specs.Marking.{Entry, readMarking, countsOf}
-use Rattle.semantics.specs.Calls.{Situation as Situated, existing, situation}
+use Rattle.semantics.specs.Marking.{Entry, readMarking}
+use Rattle.semantics.specs.Calls.{Situation as Situated, situation}
 use Rattle.semantics.proofs.Accepted.{accepted-read}
 use Rattle.semantics.proofs.Tests.{false-true}
 use Rattle.semantics.proofs.Members.{none-some, length-at}
@@ -32,7 +31,7 @@ use Rattle.net.proofs.Located.{At, net-transitions}
 use Rattle.net.proofs.Placed.{index-widths, index-transitions, index-placed, index-fits, index-outline}
 use Rattle.accept.proofs.Checking.{take-least, index-read, index-refused}
 use Rattle.marking.specs.declared.index.MarkingIndex.{MarkingIndex}
-use Rattle.marking.specs.Marked.{markingRead, Begins, IsMarking}
+use Rattle.marking.specs.Marked.{markingRead, IsMarking}
 use Rattle.occurrence.specs.declared.situation.Situation.{Situation}
 use Rattle.occurrence.specs.Situation.{Prepared, IsSituation}
 

@@ -1,4 +1,2 @@
-pub mod Flow
 pub mod Answers
-pub mod Tally
 pub mod Situation

@@ -4,8 +4,8 @@ use mathlib.Core.Path.{_≡_}
 use Prim.Native.Nat.{ℕ, _≤_}
 use mathlib.Core.List.{List}
 use mathlib.Core.Option.{some}
-use lib.ListN.{length, getElem?, take}
-use Rattle.semantics.specs.Reading.{Reading, read, refused}
+use lib.ListN.{getElem?, take}
+use Rattle.semantics.specs.Reading.{read, refused}
 use Rattle.semantics.specs.Net.{Transition, Net}
 use Rattle.semantics.specs.ReadNet.{readTransition}
 use Rattle.semantics.specs.Plan.{acceptNet}

@@ -1,78 +1,73 @@
-// Whether a marking covers what input arcs take: sums place by place and colour by colour, held against counts.
-use crate::flow::Flow;
-use crate::flow::Flows;
+// Whether a marking covers what input arcs take: sums by key, held against counts.
+use marking::find::Spot;
 use marking::find::find;
-use word::number::equal;
+use word::fields::payload;
 ghost use mathlib.Core.Path.{_≡_};
-ghost use mathlib.Core.Bool.{cond};
+ghost use Prim.Native.Nat.{_≤_, _<_, _^_};
 ghost use lib.ListN.{length};
-ghost use Rattle.semantics.specs.Enabling.{total};
-ghost use Rattle.occurrence.specs.Answers.{flowOf, flowsOf, sameKey, FlowBounds, FlowsFit, IsCovered};
+ghost use Rattle.semantics.specs.Lists.{Every};
+ghost use Rattle.net.specs.Places.{PlacesFit};
+ghost use Rattle.marking.specs.Marked.{IsSpot};
+ghost use Rattle.arcs.specs.Keys.{keyPlace, keyColour, KeyFits, sumOf};
+ghost use Rattle.occurrence.specs.Answers.{IsCovered};
 
-// Whether two flows name the same place and colour.
-pub fn same_key(a: Flow, b: Flow) -> bool
-    requires { ⌜ FlowBounds a ⌝ }
-    requires { ⌜ FlowBounds b ⌝ }
-    ensures { λ r. ⌜ r ≡ sameKey (flowOf a) (flowOf b) ⌝ }
+// The entry of a key in a marking with the beginnings of its places.
+pub fn spot_of(net: &[u32], places: &[usize], marking: &[u32], begins: &[usize], key: u64) -> Spot
+    requires { ⌜ PlacesFit (now net) (now places) ⌝ }
+    requires { ⌜ length (now begins) ≡ 65 ⌝ }
+    requires { ⌜ KeyFits (now net) (now places) key ⌝ }
+    ensures { λ r. ⌜ IsSpot (now (marking .entry)) (now (begins .entry)) (keyPlace key) (keyColour (now (net .entry)) (now (places .entry)) key) r ⌝ }
 {
-    if a.place != b.place {
-        return false;
-    }
-    if a.width != b.width {
-        return false;
-    }
-    let mut i = 0;
-    while i < a.width {
-        if !equal(a.colour[i], b.colour[i]) {
-            return false;
-        }
-        i += 1;
-    }
-    true
+    let place = (key / 0x100_0000_0000_0000) as usize;
+    let from = places[place];
+    let width = payload(net[from]) as usize;
+    find(marking, begins, place, width, key % 0x100_0000_0000_0000)
 }
 
-// What a flow moves of the place and colour of another.
-fn amount_of(g: Flow, f: Flow) -> u32
-    requires { ⌜ FlowBounds g ⌝ }
-    requires { ⌜ FlowBounds f ⌝ }
-    ensures { λ r. ⌜ r ≡ cond (sameKey (flowOf g) (flowOf f)) (g .amount) 0 ⌝ }
+fn wide(x: u32) -> u64
+    ensures { λ r. ⌜ (r ≡ x) × (r < 2 ^ 32) ⌝ }
 {
-    if same_key(g, f) {
-        return g.amount;
-    }
-    0
+    x as u64
 }
 
-// The sum of what flows move of the place and colour of one.
-pub fn total_of(flows: Flows, f: Flow) -> u64
-    requires { ⌜ FlowsFit flows ⌝ }
-    requires { ⌜ FlowBounds f ⌝ }
-    ensures { λ r. ⌜ r ≡ total (flowsOf flows) (flowOf f .place) (flowOf f .colour) ⌝ }
+// The sum of the amounts of a key.
+pub fn total_of(keys: &[u64], amounts: &[u32], key: u64) -> u64
+    requires { ⌜ (length (now keys) ≤ 8) × (length (now amounts) ≡ length (now keys)) ⌝ }
+    ensures { λ r. ⌜ r ≡ sumOf (now (keys .entry)) (now (amounts .entry)) key ⌝ }
 {
     let mut sum = 0u64;
     let mut j = 0;
-    while j < flows.n {
-        let g = flows.at[j];
-        sum += amount_of(g, f) as u64;
-        j += 1;
+    while j < keys.len() {
+        if keys[j] == key {
+            sum += wide(amounts[j]);
+            j += 1;
+        } else {
+            j += 1;
+        }
     }
     sum
 }
 
-// Whether the marking, with the beginnings of its places, covers the flows.
-pub fn covers(flows: Flows, marking: &[u32], begins: &[usize]) -> bool
-    requires { ⌜ FlowsFit flows ⌝ }
+// Whether the marking, with the beginnings of its places, covers the amounts of all keys.
+pub fn covers(
+    net: &[u32],
+    places: &[usize],
+    keys: &[u64],
+    amounts: &[u32],
+    marking: &[u32],
+    begins: &[usize],
+) -> bool
+    requires { ⌜ PlacesFit (now net) (now places) ⌝ }
     requires { ⌜ length (now begins) ≡ 65 ⌝ }
-    ensures { λ r. ⌜ IsCovered flows (now (marking .entry)) (now (begins .entry)) r ⌝ }
+    requires { ⌜ (length (now keys) ≤ 8) × (length (now amounts) ≡ length (now keys)) ⌝ }
+    requires { ⌜ Every (KeyFits (now net) (now places)) (now keys) ⌝ }
+    ensures { λ r. ⌜ IsCovered (now (net .entry)) (now (places .entry)) (now (keys .entry)) (now (amounts .entry)) (now (marking .entry)) (now (begins .entry)) r ⌝ }
 {
     let mut i = 0;
-    while i < flows.n {
-        let f = flows.at[i];
-        let place = f.place;
-        let width = f.width;
-        let colour = f.colour;
-        let spot = find(marking, begins, place, &colour[..width]);
-        if (spot.count as u64) < total_of(flows, f) {
+    while i < keys.len() {
+        let key = keys[i];
+        let spot = spot_of(net, places, marking, begins, key);
+        if (spot.count as u64) < total_of(keys, amounts, key) {
             return false;
         }
         i += 1;

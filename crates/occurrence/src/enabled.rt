@@ -1,11 +1,9 @@
 // Whether a transition is enabled under lent binding words, in a marking with the beginnings of its places.
 use crate::cover::covers;
-use crate::flow::Flows;
-use crate::flow::flows_at;
-use crate::flow::no_flows;
-use crate::guard::guard_holds;
-use crate::tally::covers_inputs;
 use accept::plan::at_most;
+use arcs::gather::Gathered;
+use arcs::gather::gather;
+use arcs::guard::guard_holds;
 use net::index::TransitionIndex;
 ghost use mathlib.Core.Path.{_≡_};
 ghost use Prim.Native.Nat.{_≤_};
@@ -14,9 +12,9 @@ ghost use Rattle.net.specs.Index.{outlined};
 ghost use Rattle.net.specs.Places.{PlacesFit};
 ghost use Rattle.occurrence.specs.Answers.{IsTaken, IsEnabledAt};
 
-// What the input arcs at some positions take, where the conjuncts at others hold and the marking covers it: none exactly where the binding is not
-// enabled.
-pub fn takes(
+// What the input arcs at some positions take, as keys and amounts, where the conjuncts at others hold and the marking covers it: none exactly where
+// the binding is not enabled.
+pub fn taken(
     net: &[u32],
     places: &[usize],
     conjuncts: &[usize],
@@ -24,26 +22,31 @@ pub fn takes(
     marking: &[u32],
     begins: &[usize],
     binding: &[u32],
-) -> Flows
+    keys: &mut [u64],
+    amounts: &mut [u32],
+) -> Gathered
     requires { ⌜ PlacesFit (now net) (now places) ⌝ }
     requires { ⌜ length (now begins) ≡ 65 ⌝ }
     requires { ⌜ length (now inputs) ≤ 8 ⌝ }
-    ensures { λ r. ⌜ IsTaken (now (net .entry)) (now (places .entry)) (now (conjuncts .entry)) (now (inputs .entry)) (now (marking .entry)) (now (begins .entry)) (now (binding .entry)) r ⌝ }
+    requires { ⌜ (length (now keys) ≡ 8) × (length (now amounts) ≡ 8) ⌝ }
+    ensures { λ r. ⌜ IsTaken (now (net .entry)) (now (places .entry)) (now (conjuncts .entry)) (now (inputs .entry)) (now (marking .entry)) (now (begins .entry)) (now (binding .entry)) r (now (keys .exit)) (now (amounts .exit)) ⌝ }
 {
+    let none = Gathered { some: false, n: 0 };
     if !guard_holds(net, binding, conjuncts) {
-        return no_flows();
+        return none;
     }
-    let flows = flows_at(net, places, binding, inputs);
-    if !flows.some {
-        return no_flows();
+    let all = gather(net, places, binding, inputs, keys, amounts);
+    if !all.some {
+        return none;
     }
-    if !covers(flows, marking, begins) {
-        return no_flows();
+    let n = all.n;
+    if !covers(net, places, &keys[..n], &amounts[..n], marking, begins) {
+        return none;
     }
-    flows
+    all
 }
 
-// Whether the binding is enabled, without what it takes.
+// Whether the binding is enabled.
 pub fn is_enabled(
     net: &[u32],
     places: &[usize],
@@ -58,30 +61,40 @@ pub fn is_enabled(
     requires { ⌜ length (now inputs) ≤ 8 ⌝ }
     ensures { λ r. ⌜ IsEnabledAt (now (net .entry)) (now (places .entry)) (now (conjuncts .entry)) (now (inputs .entry)) (now (marking .entry)) (now (begins .entry)) (now (binding .entry)) r ⌝ }
 {
-    if !guard_holds(net, binding, conjuncts) {
-        return false;
-    }
-    covers_inputs(net, places, inputs, marking, begins, binding)
+    let mut keys = [0u64; 8];
+    let mut amounts = [0u32; 8];
+    let all = taken(
+        net,
+        places,
+        conjuncts,
+        inputs,
+        marking,
+        begins,
+        binding,
+        &mut keys[..],
+        &mut amounts[..],
+    );
+    all.some
 }
 
-// What the input arcs of a transition take, where the binding is enabled.
-pub fn taken(
+// The same of the conjuncts and input arcs of a transition.
+pub fn occurs(
     net: &[u32],
     places: &[usize],
     t: TransitionIndex,
     marking: &[u32],
     begins: &[usize],
     binding: &[u32],
-) -> Flows
+) -> bool
     requires { ⌜ PlacesFit (now net) (now places) ⌝ }
     requires { ⌜ length (now begins) ≡ 65 ⌝ }
-    ensures { λ r. ⌜ IsTaken (now (net .entry)) (now (places .entry)) (outlined t .guard) (outlined t .inputs) (now (marking .entry)) (now (begins .entry)) (now (binding .entry)) r ⌝ }
+    ensures { λ r. ⌜ IsEnabledAt (now (net .entry)) (now (places .entry)) (outlined t .guard) (outlined t .inputs) (now (marking .entry)) (now (begins .entry)) (now (binding .entry)) r ⌝ }
 {
     let conjuncts = at_most(8, t.conjuncts);
     let conjuncts_at = t.conjuncts_at;
     let inputs = at_most(8, t.inputs);
     let inputs_at = t.inputs_at;
-    takes(
+    is_enabled(
         net,
         places,
         &conjuncts_at[..conjuncts],

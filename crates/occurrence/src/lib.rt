@@ -1,13 +1,7 @@
-// Occurrences: whether a binding is enabled in a marking, and what arcs move.
+// Occurrences: whether a binding is enabled in a marking.
 
-// Conjuncts and guards.
-pub mod guard;
-// What arcs move.
-pub mod flow;
-// Whether a marking covers flows.
+// Whether a marking covers keys.
 pub mod cover;
-// What input arcs take, on lists of numbers.
-pub mod tally;
 // Whether a binding is enabled.
 pub mod enabled;
 // What the calls on a transition and a marking start from.

@@ -1,5 +1,5 @@
 // The call test: whether a binding of a transition is enabled in a marking.
-use crate::enabled::taken;
+use crate::enabled::occurs;
 use crate::situation::prepare;
 use expression::read::Skipped;
 use marking::binding::read_binding;
@@ -23,8 +23,7 @@ pub fn test(net: &[u32], transition: u32, marking: &[u32], binding: &[u32]) -> T
                     let places = s.places;
                     let places_at = s.places_at;
                     let begins = s.begins;
-                    let flows = taken(net, &places_at[..places], t, marking, &begins[..], binding);
-                    if flows.some {
+                    if occurs(net, &places_at[..places], t, marking, &begins[..], binding) {
                         return Tested::Yes;
                     }
                     Tested::No

@@ -1,9 +1,9 @@
 -- The words of a menu read back: rows of VALUE words are the bindings that they were written from, since every value of an accepted net has
--- fourteen bits. The lines of rows are put row by row. Rests on semantics/proofs/{Words, Menu} and text/proofs/Putting.
+-- fourteen bits. The lines of rows are put row by row. Rests on semantics/proofs/{Words, Menu}, marking/proofs/Codes and text/proofs/Putting.
 use mathlib.Core.Path.{_≡_, refl, ap, _∙_, subst}
 use mathlib.Core.Bool.{true}
 use mathlib.Core.List.{List, [], _∷_, _++_, map, flatMap, append-assoc}
-use Prim.Native.Nat.{ℕ, zero, suc, _+_, _*_, _-_, _%_, _^_, _≤_, _<_}
+use Prim.Native.Nat.{ℕ, zero, suc, _+_, _*_, _-_, _≤_, _<_}
 use native.Mathlib.Nat.{suc-mul}
 use native.Mathlib.Omega.{arith}
 use lib.IntN.{ℤ}
@@ -11,16 +11,17 @@ use lib.Signed.{mag}
 use lib.ListN.{length, take, drop, length-map}
 use lib.Seq.{take-at, drop-at, drop-drop}
 use Rattle.semantics.specs.Lists.{Every}
-use Rattle.semantics.specs.Word.{signed, modulo, Range, within, valueWord}
+use Rattle.semantics.specs.Word.{Range, within, valueWord}
 use Rattle.semantics.specs.Net.{Place, Transition}
 use Rattle.semantics.specs.Order.{inRanges}
 use Rattle.semantics.specs.Marking.{Counts}
 use Rattle.semantics.specs.Run.{menu}
 use Rattle.semantics.proofs.Tests.{false-true, and-left, and-right, Every-of}
-use Rattle.semantics.proofs.Words.{modulo-below, signed-modulo, within-mag}
+use Rattle.semantics.proofs.Words.{within-mag}
 use Rattle.semantics.proofs.Accepted.{Valued, SoundTransition}
 use Rattle.semantics.proofs.Menu.{menu-members}
 use Rattle.rows.specs.Rows.{valuesOfWords, rowsOf}
+use Rattle.marking.proofs.Codes.{value-back}
 use Rattle.text.specs.Put.{Put, rowText}
 use Rattle.text.proofs.Putting.{Left, left-all, left-after, left-none}
 use Rattle.printed.specs.Part.{rowsText}
@@ -44,12 +45,6 @@ ranged-fit (r ∷ rs) (z ∷ zs) v e =
 -- so are the bindings of a menu
 pub menu-fits : (table : List ℕ) (places : List Place) (t : Transition) (m : Counts) → SoundTransition places t → Every (Fit (length (t .variables))) (menu table t m)
 menu-fits table places t m s = Every-of (Fit (length (t .variables))) (menu table t m) (λ b k. ranged-fit (t .variables) b (s .valued) (menu-members table t m b .0 k .0))
-
-value-back : (z : ℤ) → mag z < 8192 → signed (valueWord z % 16384) ≡ z
-value-back z h =
-    let b = modulo-below z in
-    let e : valueWord z % 16384 ≡ modulo z (2 ^ 14) = omega arith in
-    ap signed e ∙ signed-modulo z h
 
 values-back : (b : List ℤ) → Every (λ z. mag z < 8192) b → valuesOfWords (map valueWord b) ≡ b
 values-back [] e = refl

@@ -16,7 +16,7 @@ use Rattle.semantics.specs.Calls.{FireEnd, firedBy}
 use Rattle.semantics.proofs.Tests.{false-true}
 use Rattle.net.specs.declared.index.TransitionIndex.{TransitionIndex}
 use Rattle.firing.specs.Fire.{Fireable, fireEnd, IsFired}
-use Rattle.firing.specs.Patch.{written}
+use Rattle.patch.specs.Patch.{written}
 use Rattle.run.specs.declared.pick.Picked.{Picked}
 use Rattle.run.specs.Pick.{Leaves, Fires, row, FiresRow, IsFiredAt}
 
@@ -43,7 +43,7 @@ by-written net part after next (moved m) e =
       leaves = λ r buffer s b f g h. (f, g ∙ n, ap (λ (k : ℕ). take k b) g ∙ h);
     }
 
-module _ {ws ps : List ℕ} {t : TransitionIndex} {begins : List ℕ} (buffer : List ℕ) (size : ℕ) (spare : List ℕ) {bs : List ℕ} {room : ℕ} (e : room ≡ min (length spare) (length buffer)) {a : Fired} {after : List ℕ} (f : IsFired ws ps t (take size buffer) begins bs (take room spare) a after) where
+module _ {ws ps : List ℕ} (t : TransitionIndex) {begins : List ℕ} (buffer : List ℕ) (size : ℕ) (spare : List ℕ) {bs : List ℕ} {room : ℕ} (e : room ≡ min (length spare) (length buffer)) {a : Fired} {after : List ℕ} (f : IsFired ws ps t (take size buffer) begins bs (take room spare) a after) where
   roomy : length (take room spare) ≡ min (length buffer) (length spare)
   roomy = let l = length-take room spare in omega arith
 

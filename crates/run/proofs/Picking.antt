@@ -257,7 +257,9 @@ module _ {ws ps widths transitions buffer : List ℕ} {size w : ℕ} (P : Pickab
             binding = picked .0;
             placed = P .known .placed;
             there = reads;
-            outlines = outlines;
+            guard-at = ap (λ (o : Outline). o .guard) outlines;
+            inputs-at = ap (λ (o : Outline). o .inputs) outlines;
+            outputs-at = ap (λ (o : Outline). o .outputs) outlines;
             outputs = every-arc (SoundArc (net .places) (length (chosen .0 .variables))) (λ (a : Arc). a .place < length (net .places)) (λ a s. s .there) (chosen .0 .outputs) (sound .outputs);
             marked = P .marked;
             begun = begun;

@@ -8,7 +8,6 @@ use marking::pick::FirstPick;
 use marking::pick::first_malformed;
 use marking::pick::first_unknown;
 use net::index::NetIndex;
-ghost use mathlib.Core.Path.{_≡_};
 ghost use Rattle.run.specs.Start.{IsStart};
 
 // Net, then the transitions of the picks, then the marking in the first m words of a buffer, then the picks.

@@ -1,14 +1,13 @@
 // One pick: the menu of its transition, the binding at its index, and the marking after it.
 use accept::plan::at_most;
 use firing::fire::fire_binding;
-use firing::patch::copy_words;
 use marking::index::read_marking;
 use net::index::TransitionIndex;
 use net::index::read_transition;
+use patch::words::copy_words;
 use search::menu::list_bindings;
 use semantics::Fired;
 use semantics::Listed;
-ghost use mathlib.Core.Path.{_≡_};
 ghost use Prim.Native.Nat.{min};
 ghost use Rattle.run.specs.Pick.{Pickable, IsPicked, Fires, FiresRow, row, IsFiredAt};
 

@@ -1,17 +1,13 @@
 -- The rules of an arrival at a match: an arc that reads at a position has its place, its coefficient and its components there. Each rule is one arm
 -- of the code; an arm that tells no tries is one in which no such arc reads.
 use mathlib.Core.Path.{_≡_, refl, sym, ap, _∙_, subst}
-use mathlib.Core.Bool.{Bool, true, false}
-use mathlib.Core.List.{List, [], _∷_}
-use Prim.Native.Nat.{ℕ, zero, suc, _+_, _-_, _*_, _/_, _≤_, _<_}
+use mathlib.Core.List.{List}
+use Prim.Native.Nat.{ℕ, _+_, _-_, _/_, _≤_, _<_}
 use native.Mathlib.Omega.{arith}
 use borrow.Author.Tests.{ltb-true}
-use mir.Syntax.{w64}
-use mir.Val.{Fits}
 use lib.Dec.{ltb}
-use lib.ListN.{length, getD, take}
-use Rattle.semantics.specs.Expression.{Expression}
-use Rattle.semantics.specs.Reading.{Reading, read, refused, several, word}
+use lib.ListN.{length, getD}
+use Rattle.semantics.specs.Reading.{read, refused, several, word}
 use Rattle.semantics.specs.Net.{Place, Arc, rangesAt}
 use Rattle.semantics.specs.ReadNet.{readExpression, readArc}
 use Rattle.semantics.proofs.Spans.{then-read, demand-read}
@@ -30,7 +26,7 @@ use Rattle.net.proofs.Skimming.{several-length}
 use Rattle.marking.proofs.Found.{rows-inside}
 use Rattle.accept.specs.declared.element.Element.{Element}
 use Rattle.tries.specs.declared.step.Step.{Step}
-use Rattle.tries.specs.Step.{Begin, IsParts, Aimed, Inside, IsMatch}
+use Rattle.tries.specs.Step.{IsParts, Inside, IsMatch}
 
 -- ── An arc that was read ──
 

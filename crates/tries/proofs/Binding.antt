@@ -2,15 +2,14 @@
 use mathlib.Core.Path.{_≡_, refl, sym, ap, _∙_}
 use mathlib.Core.Bool.{Bool, true, false, not}
 use mathlib.Core.List.{List, [], _∷_}
-use mathlib.Core.Option.{Option, none, some, bind}
+use mathlib.Core.Option.{none, some, bind}
 use Prim.Native.Nat.{ℕ, zero, suc, _+_, _≤_, _<_}
 use native.Mathlib.Omega.{arith}
 use borrow.Author.Tests.{not-true, not-false}
 use lib.IntN.{ℤ}
-use lib.Signed.{mag}
 use lib.ListN.{getD, getElem?, set}
-use Rattle.semantics.specs.Word.{bits, Range, within, valueWord}
-use Rattle.semantics.specs.Tries.{Partial, bindNew}
+use Rattle.semantics.specs.Word.{bits, within, valueWord}
+use Rattle.semantics.specs.Tries.{bindNew}
 use Rattle.semantics.proofs.Accepted.{signed-small}
 use Rattle.semantics.proofs.Words.{within-mag}
 use Rattle.word.specs.Fields.{rangeWord}

@@ -1,16 +1,15 @@
 -- The colours at the entries of a place, where they stand in a marking, are the colours marked on the place. The idea: both lists rise, and both
 -- have those colours as members that an entry of the place has, so they are the same list.
-use mathlib.Core.Path.{_≡_, sym, ap, _∙_}
-use mathlib.Core.List.{List, [], map, List·Memᴰ, Memᴰ·cast, Memᴰ·map, Memᴰ·of-map}
+use mathlib.Core.Path.{_≡_, refl, sym, ap, _∙_}
+use mathlib.Core.List.{List, [], List·Memᴰ, Memᴰ·cast, Memᴰ·map, Memᴰ·of-map}
 use Prim.Native.Nat.{ℕ, _+_, _*_, _-_, _/_, _≤_, _<_}
 use native.Mathlib.Nat.{mul-div-cancel}
 use native.Mathlib.Omega.{arith}
 use borrow.Author.Tests.{leb-true, le-leb, eqb-true, eq-eqb}
 use lib.Dec.{leb}
 use lib.IntN.{ℤ}
-use lib.ListN.{length, getD, length-map}
+use lib.ListN.{length, getD}
 use Rattle.semantics.specs.Refusal.{badMarking}
-use Rattle.semantics.specs.Word.{Range}
 use Rattle.semantics.specs.Reading.{read}
 use Rattle.semantics.specs.Net.{Net, rangesAt}
 use Rattle.semantics.specs.Order.{tuples}
@@ -58,16 +57,8 @@ module _ (net : Net) (ms : List ℕ) (es : List Entry) (next : ℕ) (r : marking
   -- ── The entries of a place ──
 
   module _ (begins : List ℕ) (b : Begins es begins) (p : ℕ) (few : p < 64) where
-    -- a tuple with as many values as the place has components
-    lows : List ℤ
-    lows = map (λ (r : Range). r .low) (rangesAt (net .places) p)
-
-    lows-length : length lows ≡ length (rangesAt (net .places) p)
-    unfolding lows
-    lows-length = length-map (rangesAt (net .places) p) (λ (r : Range). r .low)
-
-    there : Seen ms begins p lows es
-    there = seen ms begins p lows (net .places) es next few r b (sym lows-length)
+    there : Seen ms begins p (length (rangesAt (net .places) p)) es
+    there = seen ms begins p (length (rangesAt (net .places) p)) (net .places) es next few r b refl
 
     pub place-inside : (getD begins p 0 ≤ getD begins (p + 1) 0) × (getD begins (p + 1) 0 ≤ length ms)
     place-inside = (omega (arith, there .from, there .to), there .inside)
@@ -76,8 +67,8 @@ module _ (net : Net) (ms : List ℕ) (es : List Entry) (next : ℕ) (r : marking
     unfolding coloursOn
     place-colours width e = same ∙ rising-unique (λ c. c) (colours (block p es)) (coloursOn net (countsOf es) p) (there .rises) (rising-select (λ c. c) (λ c. leb 1 (countsOf es p c)) (tuples (rangesAt (net .places) p)) (tuples-rise (rangesAt (net .places) p))) (entry-marked p) (marked-entry p)
       where
-        wide : length lows ≡ width
-        wide = lows-length ∙ sym e
+        wide : length (rangesAt (net .places) p) ≡ width
+        wide = sym e
 
         rows : (getD begins (p + 1) 0 - getD begins p 0) / (width + 1) ≡ length (block p es)
         rows =

@@ -1,17 +1,17 @@
 -- The rules of the first words of components: what is still to be read is the rest of what is read, and the words so far begin what came before it.
-use mathlib.Core.Path.{_≡_, refl, sym, ap, _∙_, subst}
+use mathlib.Core.Path.{_≡_, sym, _∙_, subst}
 use mathlib.Core.List.{List, [], _∷_, _++_, append-assoc, append-nil}
-use Prim.Native.Nat.{ℕ, zero, suc, _+_, _-_, _≤_, _<_}
+use Prim.Native.Nat.{ℕ, suc, _+_, _-_, _≤_, _<_}
 use native.Mathlib.Omega.{arith}
 use lib.ListN.{length, getD, set, take, length-set}
 use Rattle.semantics.specs.Expression.{Expression, constant, variable, binary, load}
-use Rattle.semantics.specs.Reading.{Reading, read, refused, Reader, several}
+use Rattle.semantics.specs.Reading.{read, refused, Reader, several}
 use Rattle.semantics.specs.ReadNet.{readExpression}
 use Rattle.semantics.proofs.Spans.{then-read}
 use Rattle.expression.specs.declared.read.Skipped.{Skipped}
 use Rattle.expression.specs.declared.read.Skipped.the-variants.{Next, Refused}
 use Rattle.expression.specs.Skip.{forget, skipped, Ahead, Skips}
-use Rattle.expression.proofs.Spelled.{HeadWord, headOfTree, Spelled, spelled}
+use Rattle.expression.proofs.Spelled.{HeadWord, headOfTree, spelled}
 use Rattle.expression.proofs.Laws.{skip-reads, skip-refuses}
 use Rattle.net.proofs.Loops.{take-set}
 use Rattle.tries.specs.Step.{Begin, IsParts}

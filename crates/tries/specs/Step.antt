@@ -2,10 +2,9 @@
 -- Rests on semantics/specs/Tries, marking/specs/Marked, Partial, Solve and Range.
 use mathlib.Core.Path.{_≡_}
 use mathlib.Core.List.{List, [], _∷_, map}
-use mathlib.Core.Option.{Option, none, some}
+use mathlib.Core.Option.{Option, some}
 use Prim.Native.Nat.{ℕ, zero, suc, _+_, _*_, _-_, _/_, _≤_, _<_}
 use lib.ListN.{length, getD, set, take, replicate}
-use Rattle.semantics.specs.Word.{Range}
 use Rattle.semantics.specs.Expression.{Expression}
 use Rattle.semantics.specs.Reading.{read, several}
 use Rattle.semantics.specs.Net.{Arc}

@@ -6,7 +6,7 @@ use mathlib.Core.Option.{none}
 use Prim.Native.Nat.{ℕ}
 use lib.ListN.{length}
 use Rattle.semantics.specs.Reading.{read}
-use Rattle.semantics.specs.Net.{Arc, Conjunct, Element, Transition, Net}
+use Rattle.semantics.specs.Net.{Arc, Conjunct, Element}
 use Rattle.semantics.specs.ReadNet.{readTransition}
 use Rattle.semantics.specs.Plan.{acceptNet, planFault}
 use Rattle.semantics.specs.Marking.{Entry, countsOf}

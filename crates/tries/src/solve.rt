@@ -10,7 +10,7 @@ use word::fields::payload;
 use word::number::Number;
 ghost use mathlib.Core.Path.{_≡_};
 ghost use Prim.Native.Nat.{_≤_, _<_, _+_};
-ghost use lib.ListN.{length, getElem?};
+ghost use lib.ListN.{length};
 ghost use Rattle.net.specs.Places.{rangesFrom};
 ghost use Rattle.tries.specs.Partial.{partialOf, tried, boundBy};
 ghost use Rattle.tries.specs.Solve.{valueFor, IsLone, boundAt, solvedAt, HasConjunct};

@@ -2,7 +2,6 @@
 use Rattle.net.proofs.Taking.{tests}
 use Rattle.marking.proofs.Entries.{token-last}
 use native.Mathlib.Omega.{arith}
-use borrow.Author.Needs.{needs}
 use Rattle.marking.proofs.entry.fits_token.Statement.{statement}
 use Rattle.marking.proofs.entry.fits_token.Tie as tie
 

@@ -1,7 +1,6 @@
 -- `marking::entry::read_entry` meets its contract: the rules of `Entries`, one for each arm.
 use Rattle.marking.proofs.Entries.{token-in, place-inside, entering}
 use native.Mathlib.Omega.{arith}
-use borrow.Author.Needs.{needs}
 use Rattle.marking.proofs.entry.read_entry.Statement.{statement}
 use Rattle.marking.proofs.entry.read_entry.Tie as tie
 

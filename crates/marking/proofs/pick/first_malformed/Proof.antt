@@ -1,10 +1,9 @@
 -- `marking::pick::first_malformed` meets its contract: the loop of `First`.
 use mathlib.Core.Path.{sym, ap, _∙_}
-use mathlib.Core.Bool.{not, _&&_}
+use mathlib.Core.Bool.{not}
 use Prim.Native.Nat.{_-_}
-use lib.Dec.{leb}
 use lib.ListN.{length}
-use Rattle.semantics.specs.Marking.{isPick, pickTransition}
+use Rattle.semantics.specs.Marking.{isPick}
 use Rattle.marking.proofs.First.{Looking, looking-start, looking-found, looking-turn, looking-end}
 use native.Mathlib.Omega.{arith}
 use borrow.Author.Needs.{needs}

@@ -1,25 +1,33 @@
--- `occurrence::cover::total_of` meets its contract: the loop of `Covering` over the sum.
+-- `occurrence::cover::total_of` meets its contract: the loop of `Covering` over sums.
+use mathlib.Core.Path.{refl}
 use Prim.Native.Nat.{_-_}
-use Rattle.occurrence.proofs.Covering.{Summed, flow-bounds, summed-start, summed-turn, summed-end}
+use lib.ListN.{length}
 use native.Mathlib.Omega.{arith}
 use borrow.Author.Needs.{needs}
+use Rattle.occurrence.proofs.Covering.{Summing, summing-start, summing-more, summing-same, summing-end}
 use Rattle.occurrence.proofs.cover.total_of.Statement.{statement}
 use Rattle.occurrence.proofs.cover.total_of.Tie as tie
 
 abbrev Inv-loop : tie.InvT-loop
-Inv-loop f flows sum₀ i₀ sum i = Summed flows f i sum
+Inv-loop keys amounts key sum₀ j₀ sum j = Summing keys amounts key j sum
 
 abbrev μ-loop : tie.MeasureT-loop
-μ-loop f flows sum₀ i₀ sum i = flows .n - i
+μ-loop keys amounts key sum₀ j₀ sum j = length keys - j
 
 loop-holds : tie.Need-loop-holds Inv-loop μ-loop
-loop-holds c = summed-start _ _
+loop-holds c = summing-start _ _ _
+
+add-sum : tie.Need-add-sum Inv-loop μ-loop
+add-sum c = let i = c .before .before .before .before .before .loop .inv .inside in let b = c .before .before .before .before .before .loop .inv .bounded in let few = c .before .before .before .before .before .before .before .before .pre .0 in let w = c .wide .ensures .1 in omega arith
 
 loop-again : tie.Need-loop-again Inv-loop μ-loop
-loop-again c = summed-turn (c .before .before .before .before .pre .0) (c .before .before .before .loop .inv) (c .before .before .loop-test .taken) _ (c .amount-of .ensures) (omega arith)
+loop-again c = summing-more (c .before .before .before .before .before .loop .inv) (c .before .before .before .before .loop-test .taken) (c .before .before .before .before .before .before .before .before .pre .1) refl (c .before .before .if1 .taken) (c .wide .ensures .0) (c .wide .ensures .1)
+
+loop-again-2 : tie.Need-loop-again-2 Inv-loop μ-loop
+loop-again-2 c = summing-same (c .before .before .before .loop .inv) (c .before .before .loop-test .taken) (c .before .before .before .before .before .before .pre .1) refl (c .if1 .left)
 
 returns : tie.Need-returns Inv-loop μ-loop
-returns c = summed-end (c .before .before .pre .0) (c .before .loop .inv) (c .loop-test .left)
+returns c = summing-end (c .before .loop .inv) (c .loop-test .left)
 
 pub total-of-spec : {M : Type 1} → statement M
 total-of-spec =
@@ -28,12 +36,16 @@ total-of-spec =
     Inv-loop
     μ-loop
     loop-holds
-    (λ c. let few = c .before .before .pre .0 .few in omega (arith, c .loop-test .taken))
-    (λ c. let few = c .before .before .pre .0 .few in let room = c .before .before .pre .0 .room in omega (arith, c .loop-test .taken))
-    (λ c κs. (flow-bounds (c .before .before .before .pre .0) _ _ (c .before .loop-test .taken), c .before .before .before .pre .1))
     (λ c. omega arith)
-    (λ c. let few = c .before .before .before .before .pre .0 .few in let bounded = c .before .before .before .loop .inv .bounded in omega (arith, c .before .before .loop-test .taken))
-    (λ c. let few = c .before .before .before .before .pre .0 .few in omega (arith, c .before .before .loop-test .taken))
+    (λ c. omega arith)
+    (λ c. omega arith)
+    (λ c. omega arith)
+    (λ c κs. search needs)
+    add-sum
+    (λ c. omega arith)
     (λ c. omega arith)
     loop-again
+    (λ c. omega arith)
+    (λ c. omega arith)
+    loop-again-2
     returns)

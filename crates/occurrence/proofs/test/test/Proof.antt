@@ -39,17 +39,17 @@ enum-told-2 c = search needs
 array-share-prefix-places-at : tie.Need-array-share-prefix-places-at
 array-share-prefix-places-at c = let few = (c .before .before .before .before .before .before .before .before .before .prepare .ensures .prepares _ (c .before .before .before .before .before .before .before .enum-told .given .1)) .few in let l = places-full (c .before .before .before .before .before .before .before .before .before) in omega arith
 
-slice-aggregate-taken : tie.Need-slice-aggregate-taken
-slice-aggregate-taken c = let few = (c .before .before .before .before .before .before .before .before .before .before .prepare .ensures .prepares _ (c .before .before .before .before .before .before .before .before .enum-told .given .1)) .few in let l = places-full (c .before .before .before .before .before .before .before .before .before .before) in sym (length-take-le _ _ (omega arith))
+slice-aggregate-occurs : tie.Need-slice-aggregate-occurs
+slice-aggregate-occurs c = let few = (c .before .before .before .before .before .before .before .before .before .before .prepare .ensures .prepares _ (c .before .before .before .before .before .before .before .before .enum-told .given .1)) .few in let l = places-full (c .before .before .before .before .before .before .before .before .before .before) in sym (length-take-le _ _ (omega arith))
 
-slice-aggregate-taken-2 : tie.Need-slice-aggregate-taken-2
-slice-aggregate-taken-2 c = sym (begins-full (c .before .before .before .before .before .before .before .before .before .before .before))
+slice-aggregate-occurs-2 : tie.Need-slice-aggregate-occurs-2
+slice-aggregate-occurs-2 c = sym (begins-full (c .before .before .before .before .before .before .before .before .before .before .before))
 
-taken-requires : tie.Need-taken-requires
-taken-requires c κs = ((c .before .before .before .before .before .before .before .before .before .before .before .prepare .ensures .prepares _ (c .before .before .before .before .before .before .before .before .before .enum-told .given .1)) .fits, begins-full (c .before .before .before .before .before .before .before .before .before .before .before))
+occurs-requires : tie.Need-occurs-requires
+occurs-requires c κs = ((c .before .before .before .before .before .before .before .before .before .before .before .prepare .ensures .prepares _ (c .before .before .before .before .before .before .before .before .before .enum-told .given .1)) .fits, begins-full (c .before .before .before .before .before .before .before .before .before .before .before))
 
 returns : tie.Need-returns
-returns c = ap yesOrNo (sym (c .if1 .taken)) ∙ test-answers (c .before .before .before .before .before .before .before .before .before .before .before .before .before .prepare .ensures .prepares _ (c .before .before .before .before .before .before .before .before .before .before .before .enum-told .given .1)) (c .before .before .before .before .before .before .before .before .before .before .before .before .before .before .before .before .before .args .binding .now) (c .before .before .before .before .before .before .before .before .read-binding .result) (c .before .before .before .before .before .before .before .before .read-binding .ensures) (c .before .before .before .before .before .before .enum-told2 .given .1) refl (c .before .taken .ensures .enabled)
+returns c = ap yesOrNo (sym (c .if1 .taken)) ∙ test-answers (c .before .before .before .before .before .before .before .before .before .before .before .before .before .prepare .ensures .prepares _ (c .before .before .before .before .before .before .before .before .before .before .before .enum-told .given .1)) (c .before .before .before .before .before .before .before .before .before .before .before .before .before .before .before .before .before .args .binding .now) (c .before .before .before .before .before .before .before .before .read-binding .result) (c .before .before .before .before .before .before .before .before .read-binding .ensures) (c .before .before .before .before .before .before .enum-told2 .given .1) refl (c .before .occurs .ensures)
 
 returns-2 : tie.Need-returns-2
 returns-2 c = test-refused (c .before .before .before .before .before .before .before .args .net .now) (c .before .before .before .before .before .before .before .args .transition) (c .before .before .before .before .before .before .before .args .marking .now) (c .before .before .before .before .before .before .before .args .binding .now) (c .before .before .before .prepare .ensures) (c .before .end .given .1)
@@ -58,7 +58,7 @@ returns-3 : tie.Need-returns-3
 returns-3 c = test-unbound (c .before .before .before .before .before .before .before .before .prepare .ensures .prepares _ (c .before .before .before .before .before .before .enum-told .given .1)) (c .before .before .before .before .before .before .before .before .before .before .before .before .args .binding .now) (c .before .before .before .read-binding .result) (c .before .before .before .read-binding .ensures) (c .before .m .given .1)
 
 returns-4 : tie.Need-returns-4
-returns-4 c = ap yesOrNo (sym (c .if1 .left)) ∙ test-answers (c .before .before .before .before .before .before .before .before .before .before .before .before .before .prepare .ensures .prepares _ (c .before .before .before .before .before .before .before .before .before .before .before .enum-told .given .1)) (c .before .before .before .before .before .before .before .before .before .before .before .before .before .before .before .before .before .args .binding .now) (c .before .before .before .before .before .before .before .before .read-binding .result) (c .before .before .before .before .before .before .before .before .read-binding .ensures) (c .before .before .before .before .before .before .enum-told2 .given .1) refl (c .before .taken .ensures .enabled)
+returns-4 c = ap yesOrNo (sym (c .if1 .left)) ∙ test-answers (c .before .before .before .before .before .before .before .before .before .before .before .before .before .prepare .ensures .prepares _ (c .before .before .before .before .before .before .before .before .before .before .before .enum-told .given .1)) (c .before .before .before .before .before .before .before .before .before .before .before .before .before .before .before .before .before .args .binding .now) (c .before .before .before .before .before .before .before .before .read-binding .result) (c .before .before .before .before .before .before .before .before .read-binding .ensures) (c .before .before .before .before .before .before .enum-told2 .given .1) refl (c .before .occurs .ensures)
 
 pub test-spec : {M : Type 1} → statement M
 test-spec =
@@ -72,9 +72,9 @@ test-spec =
     enum-known-m
     enum-told-2
     array-share-prefix-places-at
-    slice-aggregate-taken
-    slice-aggregate-taken-2
-    taken-requires
+    slice-aggregate-occurs
+    slice-aggregate-occurs-2
+    occurs-requires
     returns
     returns-2
     returns-3

@@ -1,5 +1,4 @@
 -- `tries::step::arrive` meets its contract: each return is a rule of `Arriving`.
-use native.Mathlib.Omega.{arith}
 use borrow.Author.Needs.{needs}
 use Rattle.tries.proofs.Aiming.{without}
 use Rattle.tries.proofs.Arriving.{match-past, match-there, solve-past, solve-there, range-past, range-there}

@@ -1,5 +1,4 @@
 -- `tries::step::arrive_match` meets its contract: each return is a rule of `Aiming`.
-use mathlib.Core.Path.{_≡_}
 use native.Mathlib.Omega.{arith}
 use borrow.Author.Needs.{needs}
 use Rattle.net.proofs.Structures.{next-fits}

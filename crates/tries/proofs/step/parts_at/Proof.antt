@@ -1,9 +1,8 @@
 -- `tries::step::parts_at` meets its contract: the loop keeps `Parting`.
-use mathlib.Core.Path.{_≡_, refl}
-use Prim.Native.Nat.{_-_, _<_}
+use mathlib.Core.Path.{refl}
+use Prim.Native.Nat.{_-_}
 use native.Mathlib.Omega.{arith}
 use borrow.Author.Needs.{needs}
-use lib.ListN.{length}
 use Rattle.tries.proofs.Parting.{Parting, parting-start, parting-ends, parting-stops, parting-turn, skip-ahead}
 use Rattle.tries.proofs.step.parts_at.Statement.{statement}
 use Rattle.tries.proofs.step.parts_at.Tie as tie

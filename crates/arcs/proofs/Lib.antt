@@ -1,0 +1,7 @@
+pub mod Evaluating
+pub mod Guarding
+pub mod Colours
+pub mod Packing
+pub mod Flowing
+pub mod Gathering
+pub mod Keyed

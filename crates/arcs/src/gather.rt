@@ -1,0 +1,52 @@
+// What several arcs move: keys and amounts in lent lists.
+use crate::flow::Moved;
+use crate::flow::move_at;
+ghost use mathlib.Core.Path.{_≡_};
+ghost use Prim.Native.Nat.{_≤_};
+ghost use lib.ListN.{length};
+ghost use Rattle.net.specs.Places.{PlacesFit};
+ghost use Rattle.arcs.specs.Keys.{IsGathered};
+
+// How many keys were gathered; none where an arc has no flow, or moves a colour that its place cannot have.
+pub struct Gathered {
+    pub some: bool,
+    pub n: usize,
+}
+
+// Writes the key and the amount of each of the arcs at these positions that moves something, one after the other.
+pub fn gather(
+    net: &[u32],
+    places: &[usize],
+    binding: &[u32],
+    ats: &[usize],
+    keys: &mut [u64],
+    amounts: &mut [u32],
+) -> Gathered
+    requires { ⌜ PlacesFit (now net) (now places) ⌝ }
+    requires { ⌜ length (now ats) ≤ 8 ⌝ }
+    requires { ⌜ (length (now keys) ≡ 8) × (length (now amounts) ≡ 8) ⌝ }
+    ensures { λ r. ⌜ IsGathered (now (net .entry)) (now (places .entry)) (now (binding .entry)) (now (ats .entry)) r (now (keys .exit)) (now (amounts .exit)) ⌝ }
+{
+    let mut n = 0;
+    let mut i = 0;
+    while i < ats.len() {
+        match move_at(net, places, binding, ats[i]) {
+            Moved::Tokens(key, amount) => {
+                keys[n] = key;
+                amounts[n] = amount;
+                n += 1;
+                i += 1;
+            }
+            Moved::Idle => {
+                i += 1;
+            }
+            Moved::Outside => {
+                return Gathered { some: false, n: 0 };
+            }
+            Moved::Nothing => {
+                return Gathered { some: false, n: 0 };
+            }
+        }
+    }
+    Gathered { some: true, n: n }
+}

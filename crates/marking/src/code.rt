@@ -1,0 +1,50 @@
+// Colours as numbers: a digit of 14 bits for each component, the first one highest, so that two colours of a place are compared at once.
+ghost use mathlib.Core.Path.{_≡_};
+ghost use Prim.Native.Nat.{_≤_, _<_, _+_, _%_, _^_};
+ghost use lib.ListN.{length};
+ghost use Rattle.semantics.specs.Word.{signed};
+ghost use Rattle.semantics.specs.Order.{before, sameTuple};
+ghost use Rattle.marking.specs.Code.{ofDigit, coloured, IsCode};
+ghost use Rattle.marking.specs.Marked.{valuesAt};
+
+// The digit of a VALUE word.
+pub fn digit_of(w: u32) -> u64
+    ensures { λ r. ⌜ (ofDigit r ≡ signed (w % 16384)) × (r < 16384) ⌝ }
+{
+    ((w % 16384 + 8192) % 16384) as u64
+}
+
+// The code of n VALUE words.
+pub fn code_at(words: &[u32], at: usize, n: usize) -> u64
+    requires { ⌜ n ≤ 4 ⌝ }
+    requires { ⌜ at + n ≤ length (now words) ⌝ }
+    ensures { λ r. ⌜ IsCode n (valuesAt (now (words .entry)) n at) r ⌝ }
+{
+    let mut code = 0u64;
+    let mut i = 0;
+    while i < n {
+        code = code * 16384 + digit_of(words[at + i]);
+        i += 1;
+    }
+    code
+}
+
+// Whether the n VALUE words at a position stand before the colour of a code.
+pub fn code_before(words: &[u32], at: usize, n: usize, code: u64) -> bool
+    requires { ⌜ n ≤ 4 ⌝ }
+    requires { ⌜ at + n ≤ length (now words) ⌝ }
+    requires { ⌜ code < 16384 ^ n ⌝ }
+    ensures { λ r. ⌜ r ≡ before (valuesAt (now (words .entry)) n at) (coloured n code) ⌝ }
+{
+    code_at(words, at, n) < code
+}
+
+// Whether they are that colour.
+pub fn code_same(words: &[u32], at: usize, n: usize, code: u64) -> bool
+    requires { ⌜ n ≤ 4 ⌝ }
+    requires { ⌜ at + n ≤ length (now words) ⌝ }
+    requires { ⌜ code < 16384 ^ n ⌝ }
+    ensures { λ r. ⌜ r ≡ sameTuple (valuesAt (now (words .entry)) n at) (coloured n code) ⌝ }
+{
+    code_at(words, at, n) == code
+}

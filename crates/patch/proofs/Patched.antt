@@ -1,0 +1,484 @@
+-- The words of a marking with its changes made are the words of the counts that they lead to.
+-- The idea: entries and changes both rise by key. Merged by key, a change in place of the entry of its key and left out for the count 0,
+-- they are rising entries that have just the new counts, and rising entries are known by their counts (`entries-again`). The merge goes
+-- along the words: entries before a change are the words up to where it stands.
+use mathlib.Core.Path.{_≡_, refl, sym, ap, _∙_, subst, fun-ext}
+use mathlib.Core.Logic.{_⊎_, inl, inr}
+use mathlib.Core.Bool.{true, false, cond, _&&_}
+use mathlib.Core.List.{List, [], _∷_, _++_, flatMap, append-nil, append-assoc, List·Memᴰ, List·Memᴰ·head, List·Memᴰ·tail, List·Memᴰ·not-nil, List·Memᴰ·cases-cons, List·Memᴰ·eq-of-singleton, List·Memᴰ·append-cases, Memᴰ·append-left, Memᴰ·append-right, Memᴰ·cast}
+use Prim.Native.Nat.{ℕ, zero, suc, _+_, _-_, _≤_}
+use native.Mathlib.Omega.{arith}
+use borrow.Author.Tests.{eqb-true, ne-eqb}
+use lib.Dec.{eqb}
+use lib.IntN.{ℤ}
+use lib.ListN.{length, take, drop, length-append, length-map, length-drop}
+use lib.Seq.{slice, slice-empty, length-slice, length-take-le, take-add, drop-at, take-append-add, drop-length}
+use Rattle.semantics.specs.Refusal.{badMarking}
+use Rattle.semantics.specs.Lists.{Every}
+use Rattle.semantics.specs.Word.{valueWord}
+use Rattle.semantics.specs.Reading.{read}
+use Rattle.semantics.specs.Net.{Place, Net}
+use Rattle.semantics.specs.Order.{sameTuple, before, Rising}
+use Rattle.semantics.specs.Marking.{Entry, key, readEntries, Counts, countsOf, entryWords, markingWords}
+use Rattle.semantics.proofs.Tests.{either, and-left, and-right, cond-false, tuple-same, Every-at, Every-of}
+use Rattle.semantics.proofs.Order.{before-trans, before-irrefl, before-total}
+use Rattle.semantics.proofs.Spans.{numbered-read, drop-after}
+use Rattle.semantics.proofs.Entries.{entryKey, wordsOfEntry, wordsOf, Good, counts-some, counts-member, entriesOf-words, entries-again}
+use Rattle.semantics.proofs.ReadEntries.{Accepted, entries-read}
+use Rattle.marking.specs.Marked.{markingRead, positionOf}
+use Rattle.patch.specs.Patch.{Change, changeKey, patched, oldLength, newLength, Told, Untouched, Changing, Apart, InOrder}
+
+-- ── Parts of the words ──
+
+-- the words from s on, n of them
+slice-from : (l : List ℕ) (s n : ℕ) → s ≤ length l → slice s (s + n) l ≡ take n (drop s l)
+slice-from l s n h = ap (λ (x : List ℕ). drop s x) (take-add s n l) ∙ drop-at (take s l) (take n (drop s l)) s (length-take-le s l h)
+
+-- a part that begins with xs is xs and the part after it
+slice-past : (l : List ℕ) (s : ℕ) (xs ys : List ℕ) (t : ℕ) → drop s l ≡ xs ++ ys → s + length xs ≤ t → s + length xs ≤ length l → slice s t l ≡ xs ++ slice (s + length xs) t l
+slice-past l s xs ys t e h k =
+    let n : ℕ = t - (s + length xs) in
+    let i : t ≡ s + (length xs + n) = omega arith in
+    let j : t ≡ s + length xs + n = omega arith in
+    ap (λ (u : ℕ). slice s u l) i
+    ∙ slice-from l s (length xs + n) (omega arith)
+    ∙ ap (take (length xs + n)) e
+    ∙ take-append-add xs ys n
+    ∙ ap (λ (x : List ℕ). xs ++ x) (ap (take n) (sym (drop-after l s xs ys e)) ∙ sym (slice-from l (s + length xs) n k) ∙ ap (λ (u : ℕ). slice (s + length xs) u l) (sym j))
+
+-- ── Where entries stand, and their counts ──
+
+after-not : (a b : List ℤ) → before a b ≡ true → before b a ≡ false
+after-not a b h = by (either (before b a))
+  where
+    by : (before b a ≡ true) ⊎ (before b a ≡ false) → before b a ≡ false
+    by (inl t) = absurd (before-irrefl a (before-trans a b a h t))
+    by (inr t) = t
+
+same-not : (a b : List ℤ) → a ≡ b → before a b ≡ false
+same-not a b q = by (either (before a b))
+  where
+    by : (before a b ≡ true) ⊎ (before a b ≡ false) → before a b ≡ false
+    by (inl t) = absurd (before-irrefl b (subst (λ (x : List ℤ). before x b ≡ true) q t))
+    by (inr t) = t
+
+differ : (a b : List ℤ) → before a b ≡ true → a ≡ b → ⊥
+differ a b h q = before-irrefl b (subst (λ (x : List ℤ). before x b ≡ true) q h)
+
+size : (e : Entry) → length (wordsOfEntry e) ≡ 1 + length (e .colour)
+size e = omega (arith, length-map (e .colour) valueWord)
+
+-- all entries, or all changes, stand after a key
+abbrev After : List ℤ → List Entry → Type 0
+After k es = Every (λ (e : Entry). before k (entryKey e) ≡ true) es
+
+abbrev AfterAll : List ℤ → List Change → Type 0
+AfterAll k ts = Every (λ (t : Change). before k (changeKey t) ≡ true) ts
+
+after-trans : (j k : List ℤ) (es : List Entry) → before j k ≡ true → After k es → After j es
+after-trans j k [] h a = tt
+after-trans j k (e ∷ es) h a = (before-trans j k (entryKey e) h (a .0), after-trans j k es h (a .1))
+
+afterAll-trans : (j k : List ℤ) (ts : List Change) → before j k ≡ true → AfterAll k ts → AfterAll j ts
+afterAll-trans j k [] h a = tt
+afterAll-trans j k (t ∷ ts) h a = (before-trans j k (changeKey t) h (a .0), afterAll-trans j k ts h (a .1))
+
+position-after : (es : List Entry) (k : List ℤ) → After k es → positionOf es k ≡ 0
+unfolding positionOf
+position-after [] k a = refl
+position-after (e ∷ es) k a = rw (after-not k (entryKey e) (a .0), position-after es k (a .1))
+
+counts-none : (es : List Entry) (p : ℕ) (c : List ℤ) → ((e : Entry) → List·Memᴰ e es → entryKey e ≡ key p c → ⊥) → countsOf es p c ≡ 0
+counts-none es p c f = by (countsOf es p c) refl
+  where
+    by : (n : ℕ) → countsOf es p c ≡ n → n ≡ 0
+    by zero q = refl
+    by (suc n) q =
+        let s = counts-some es p c (omega arith) in
+        absurd (f (s .entry) (s .member) (cc (s .place, s .colour)))
+
+counts-past : (e : Entry) (es : List Entry) (p : ℕ) (c : List ℤ) → (entryKey e ≡ key p c → ⊥) → countsOf (e ∷ es) p c ≡ countsOf es p c
+unfolding countsOf
+counts-past e es p c d = by (either (eqb (e .place) p && sameTuple (e .colour) c))
+  where
+    by : ((eqb (e .place) p && sameTuple (e .colour) c) ≡ true) ⊎ ((eqb (e .place) p && sameTuple (e .colour) c) ≡ false) → cond (eqb (e .place) p && sameTuple (e .colour) c) (e .count) 0 + countsOf es p c ≡ countsOf es p c
+    by (inl t) =
+        let i = eqb-true (e .place) p (and-left (eqb (e .place) p) (sameTuple (e .colour) c) t) in
+        let j = tuple-same (e .colour) c (and-right (eqb (e .place) p) (sameTuple (e .colour) c) t) in
+        absurd (d (cc (i, j)))
+    by (inr t) = omega (arith, cond-false (eqb (e .place) p && sameTuple (e .colour) c) (e .count) 0 t)
+
+-- ── What is ahead ──
+
+-- a change among the entries that stand from src on
+record Placed (src : ℕ) (es : List Entry) (t : Change) : Type 0 where
+  at : t .at ≡ src + positionOf es (changeKey t)
+  old : t .old ≡ cond (eqb (countsOf es (t .place) (t .colour)) 0) 0 (1 + length (t .colour))
+
+placed-past : (src : ℕ) (e : Entry) (es : List Entry) (t : Change) → before (entryKey e) (changeKey t) ≡ true → Placed src (e ∷ es) t → Placed (src + length (wordsOfEntry e)) es t
+unfolding positionOf
+placed-past src e es t b p =
+    let l = size e in
+    let i = rw b at (p .at) in
+    record { at = omega arith; old = rw (counts-past e es (t .place) (t .colour) (differ (entryKey e) (changeKey t) b)) at (p .old) }
+
+-- a change whose key has no entry, and one whose key has the first
+no-entry : (src : ℕ) (es : List Entry) (t : Change) → After (changeKey t) es → Placed src es t → (t .at ≡ src) × (t .old ≡ 0)
+no-entry src es t a p =
+    let i = position-after es (changeKey t) a in
+    let z = counts-none es (t .place) (t .colour) (λ e k q. differ (changeKey t) (entryKey e) (Every-at (λ (e : Entry). before (changeKey t) (entryKey e) ≡ true) a k) (sym q)) in
+    let j = p .at in
+    (omega arith, rw z at (p .old))
+
+own-entry : (src : ℕ) (e : Entry) (es : List Entry) (t : Change) → entryKey e ≡ changeKey t → Rising entryKey (e ∷ es) → 1 ≤ e .count → Placed src (e ∷ es) t → (t .at ≡ src) × (t .old ≡ length (wordsOfEntry e))
+unfolding positionOf
+own-entry src e es t q r s p =
+    let a : After (changeKey t) es = subst (λ (k : List ℤ). After k es) q (r .0) in
+    let i = position-after es (changeKey t) a in
+    let j = rw (same-not (entryKey e) (changeKey t) q) at (p .at) in
+    let x : e .place ≡ t .place = cc q in
+    let y : e .colour ≡ t .colour = cc q in
+    let n : countsOf (e ∷ es) (t .place) (t .colour) ≡ e .count = rw (← x, ← y) (counts-member (e ∷ es) r e (List·Memᴰ·head refl)) in
+    let f : eqb (countsOf (e ∷ es) (t .place) (t .colour)) 0 ≡ false = rw n (ne-eqb (e .count) 0 (λ z. omega arith)) in
+    let o = rw f at (p .old) in
+    let l = size e in
+    let w = ap length y in
+    (omega arith, omega arith)
+
+-- the entries that the words from src on are, and changes among them
+record Rest (ws : List ℕ) (src : ℕ) (es : List Entry) (ts : List Change) : Type 0 where
+  spelled : drop src ws ≡ wordsOf es
+  whole : src + length (wordsOf es) ≡ length ws
+  rises : Rising entryKey es
+  some : Every (λ (e : Entry). 1 ≤ e .count) es
+  rising : Rising changeKey ts
+  placed : Every (Placed src es) ts
+
+rest-past : {ws : List ℕ} {src : ℕ} {e : Entry} {es : List Entry} {ts : List Change} → Rest ws src (e ∷ es) ts → AfterAll (entryKey e) ts → Rest ws (src + length (wordsOfEntry e)) es ts
+unfolding flatMap
+rest-past {ws} {src} {e} {es} {ts} r a =
+    let l = length-append (wordsOfEntry e) (wordsOf es) in
+    let w = r .whole in
+    record {
+      spelled = drop-after ws src (wordsOfEntry e) (wordsOf es) (r .spelled);
+      whole = omega arith;
+      rises = r .rises .1;
+      some = r .some .1;
+      rising = r .rising;
+      placed = Every-of (Placed (src + length (wordsOfEntry e)) es) ts (λ t k. placed-past src e es t (Every-at (λ (t : Change). before (entryKey e) (changeKey t) ≡ true) a k) (Every-at (Placed src (e ∷ es)) (r .placed) k));
+    }
+
+rest-taken : {ws : List ℕ} {src : ℕ} {es : List Entry} {t : Change} {ts : List Change} → Rest ws src es (t ∷ ts) → Rest ws src es ts
+rest-taken r = record { spelled = r .spelled; whole = r .whole; rises = r .rises; some = r .some; rising = r .rising .1; placed = r .placed .1 }
+
+-- ── Entries and changes merged ──
+
+-- the entry of a place and colour with a count, none for 0
+entryOf : ℕ → List ℤ → ℕ → List Entry
+entryOf p c zero = []
+entryOf p c (suc n) = record { place = p; count = suc n; colour = c } ∷ []
+
+entryOf-words : (p : ℕ) (c : List ℤ) (n : ℕ) (es : List Entry) → entryWords p c n ++ wordsOf es ≡ wordsOf (entryOf p c n ++ es)
+unfolding entryOf entryWords flatMap
+entryOf-words p c zero es = refl
+entryOf-words p c (suc n) es = refl
+
+entryOf-rises : (p : ℕ) (c : List ℤ) (n : ℕ) (es : List Entry) → After (key p c) es → Rising entryKey es → Rising entryKey (entryOf p c n ++ es)
+unfolding entryOf
+entryOf-rises p c zero es a r = r
+entryOf-rises p c (suc n) es a r = (a, r)
+
+entryOf-in : (p : ℕ) (c : List ℤ) (n : ℕ) (e : Entry) → List·Memᴰ e (entryOf p c n) → (key p c ≡ entryKey e) × (e .count ≡ n) × (1 ≤ e .count)
+unfolding entryOf
+entryOf-in p c zero e k = absurd (List·Memᴰ·not-nil k)
+entryOf-in p c (suc n) e k =
+    let q = List·Memᴰ·eq-of-singleton k in
+    let z = ap (λ (d : Entry). d .count) q in
+    (sym (ap entryKey q), z, omega arith)
+
+entry-path : (d e : Entry) → d .place ≡ e .place → d .count ≡ e .count → d .colour ≡ e .colour → d ≡ e
+entry-path d e p q r = λ i. record { place = p i; count = q i; colour = r i }
+
+in-entryOf : (p : ℕ) (c : List ℤ) (n : ℕ) (e : Entry) → key p c ≡ entryKey e → e .count ≡ n → 1 ≤ e .count → List·Memᴰ e (entryOf p c n)
+unfolding entryOf
+in-entryOf p c zero e q z s = absurd (omega arith)
+in-entryOf p c (suc n) e q z s = List·Memᴰ·head (entry-path e (record { place = p; count = suc n; colour = c }) (cc q) z (cc q))
+
+-- an entry that no change touches, or the new one of a change
+data From (es : List Entry) (ts : List Change) (e : Entry) : Type 0 where
+  kept : List·Memᴰ e es → Untouched ts (entryKey e) → From es ts e
+  set : (t : Change) → List·Memᴰ t ts → changeKey t ≡ entryKey e → e .count ≡ t .count → 1 ≤ e .count → From es ts e
+
+from-after : (k : List ℤ) (es : List Entry) (ts : List Change) (e : Entry) → After k es → AfterAll k ts → From es ts e → before k (entryKey e) ≡ true
+from-after k es ts e a b (kept i u) = Every-at (λ (e : Entry). before k (entryKey e) ≡ true) a i
+from-after k es ts e a b (set t i q n s) = subst (λ (j : List ℤ). before k j ≡ true) q (Every-at (λ (t : Change). before k (changeKey t) ≡ true) b i)
+
+-- rising entries, just those, whose words are the patched words from src on
+record Merged (ws : List ℕ) (src : ℕ) (es : List Entry) (ts : List Change) : Type 0 where
+  entries : List Entry
+  spelled : patched ws src ts ≡ wordsOf entries
+  rises : Rising entryKey entries
+  forth : (e : Entry) → List·Memᴰ e entries → From es ts e
+  back : (e : Entry) → From es ts e → List·Memᴰ e entries
+  apart : Apart (length ws) src ts
+
+merged-none : {ws : List ℕ} {src : ℕ} {es : List Entry} → Rest ws src es [] → Merged ws src es []
+unfolding patched
+merged-none {es = es} r =
+    let w = r .whole in
+    record {
+      entries = es;
+      spelled = r .spelled;
+      rises = r .rises;
+      forth = λ e i. kept i (λ t j q. List·Memᴰ·not-nil j);
+      back = back;
+      apart = omega arith;
+    }
+  where
+    back : (e : Entry) → From es [] e → List·Memᴰ e es
+    back e (kept i u) = i
+    back e (set t i q n s) = absurd (List·Memᴰ·not-nil i)
+
+-- an entry before all changes stays
+merged-past : {ws : List ℕ} {src : ℕ} {e : Entry} {es : List Entry} {t : Change} {ts : List Change} → Rest ws src (e ∷ es) (t ∷ ts) → AfterAll (entryKey e) (t ∷ ts) → Merged ws (src + length (wordsOfEntry e)) es (t ∷ ts) → Merged ws src (e ∷ es) (t ∷ ts)
+unfolding patched flatMap
+merged-past {ws} {src} {e} {es} {t} {ts} r a m =
+    let w = r .whole in
+    let l = length-append (wordsOfEntry e) (wordsOf es) in
+    let h = m .apart .0 in
+    record {
+      entries = e ∷ m .entries;
+      spelled = ap (λ (x : List ℕ). x ++ later) (slice-past ws src (wordsOfEntry e) (wordsOf es) (t .at) (r .spelled) h (omega arith)) ∙ append-assoc (wordsOfEntry e) (slice (src + length (wordsOfEntry e)) (t .at) ws) later ∙ ap (λ (x : List ℕ). wordsOfEntry e ++ x) (m .spelled);
+      rises = (Every-of (λ (d : Entry). before (entryKey e) (entryKey d) ≡ true) (m .entries) (λ d i. from-after (entryKey e) es (t ∷ ts) d (r .rises .0) a (m .forth d i)), m .rises);
+      forth = λ d i. forth d (List·Memᴰ·cases-cons i);
+      back = back;
+      apart = (omega arith, m .apart .1, m .apart .2);
+    }
+  where
+    later : List ℕ
+    later = entryWords (t .place) (t .colour) (t .count) ++ patched ws (t .at + t .old) ts
+
+    old : (d : Entry) → From es (t ∷ ts) d → From (e ∷ es) (t ∷ ts) d
+    old d (kept i u) = kept (List·Memᴰ·tail i) u
+    old d (set s i q n o) = set s i q n o
+
+    forth : (d : Entry) → (d ≡ e) ⊎ List·Memᴰ d (m .entries) → From (e ∷ es) (t ∷ ts) d
+    forth d (inl q) = kept (List·Memᴰ·head q) (λ s j p. differ (entryKey e) (changeKey s) (Every-at (λ (s : Change). before (entryKey e) (changeKey s) ≡ true) a j) (sym (p ∙ ap entryKey q)))
+    forth d (inr i) = old d (m .forth d i)
+
+    stays : (d : Entry) → Untouched (t ∷ ts) (entryKey d) → (d ≡ e) ⊎ List·Memᴰ d es → List·Memᴰ d (e ∷ m .entries)
+    stays d u (inl q) = List·Memᴰ·head q
+    stays d u (inr i) = List·Memᴰ·tail (m .back d (kept i u))
+
+    back : (d : Entry) → From (e ∷ es) (t ∷ ts) d → List·Memᴰ d (e ∷ m .entries)
+    back d (kept i u) = stays d u (List·Memᴰ·cases-cons i)
+    back d (set s i q n o) = List·Memᴰ·tail (m .back d (set s i q n o))
+
+-- a change before all entries but its own, `own` being those with it
+merged-set : {ws : List ℕ} (src : ℕ) (own : List Entry) {es : List Entry} (t : Change) {ts : List Change} → t .at ≡ src → t .at + t .old ≤ length ws → After (changeKey t) es → AfterAll (changeKey t) ts → ((e : Entry) → List·Memᴰ e es → List·Memᴰ e own) → ((e : Entry) → List·Memᴰ e own → (entryKey e ≡ changeKey t) ⊎ List·Memᴰ e es) → Merged ws (t .at + t .old) es ts → Merged ws src own (t ∷ ts)
+unfolding patched
+merged-set {ws} src own {es} t {ts} h o a b f g m = record {
+  entries = entryOf (t .place) (t .colour) (t .count) ++ m .entries;
+  spelled = ap (λ (x : List ℕ). x ++ (entryWords (t .place) (t .colour) (t .count) ++ patched ws (t .at + t .old) ts)) nothing ∙ ap (λ (x : List ℕ). entryWords (t .place) (t .colour) (t .count) ++ x) (m .spelled) ∙ entryOf-words (t .place) (t .colour) (t .count) (m .entries);
+  rises = entryOf-rises (t .place) (t .colour) (t .count) (m .entries) (Every-of (λ (d : Entry). before (changeKey t) (entryKey d) ≡ true) (m .entries) (λ d i. from-after (changeKey t) es ts d a b (m .forth d i))) (m .rises);
+  forth = λ d i. forth d (List·Memᴰ·append-cases (entryOf (t .place) (t .colour) (t .count)) i);
+  back = back;
+  apart = (omega arith, o, m .apart);
+}
+  where
+    nothing : slice src (t .at) ws ≡ []
+    nothing = ap (λ (u : ℕ). slice u (t .at) ws) (sym h) ∙ slice-empty (t .at) ws
+
+    untouched : (d : Entry) → List·Memᴰ d es → Untouched ts (entryKey d) → (s : Change) → changeKey s ≡ entryKey d → (s ≡ t) ⊎ List·Memᴰ s ts → ⊥
+    untouched d i u s p (inl q) = differ (changeKey t) (entryKey d) (Every-at (λ (d : Entry). before (changeKey t) (entryKey d) ≡ true) a i) (ap changeKey (sym q) ∙ p)
+    untouched d i u s p (inr j) = u s j p
+
+    old : (d : Entry) → From es ts d → From own (t ∷ ts) d
+    old d (kept i u) = kept (f d i) (λ s j p. untouched d i u s p (List·Memᴰ·cases-cons j))
+    old d (set s i q n z) = set s (List·Memᴰ·tail i) q n z
+
+    forth : (d : Entry) → List·Memᴰ d (entryOf (t .place) (t .colour) (t .count)) ⊎ List·Memᴰ d (m .entries) → From own (t ∷ ts) d
+    forth d (inl i) = let k = entryOf-in (t .place) (t .colour) (t .count) d i in set t (List·Memᴰ·head refl) (k .0) (k .1) (k .2)
+    forth d (inr i) = old d (m .forth d i)
+
+    stays : (d : Entry) → Untouched (t ∷ ts) (entryKey d) → (entryKey d ≡ changeKey t) ⊎ List·Memᴰ d es → List·Memᴰ d (entryOf (t .place) (t .colour) (t .count) ++ m .entries)
+    stays d u (inl q) = absurd (u t (List·Memᴰ·head refl) (sym q))
+    stays d u (inr i) = Memᴰ·append-right (entryOf (t .place) (t .colour) (t .count)) (m .back d (kept i (λ s j p. u s (List·Memᴰ·tail j) p)))
+
+    comes : (d : Entry) (s : Change) → changeKey s ≡ entryKey d → d .count ≡ s .count → 1 ≤ d .count → (s ≡ t) ⊎ List·Memᴰ s ts → List·Memᴰ d (entryOf (t .place) (t .colour) (t .count) ++ m .entries)
+    comes d s p n z (inl q) = Memᴰ·append-left (m .entries) (in-entryOf (t .place) (t .colour) (t .count) d (ap changeKey (sym q) ∙ p) (n ∙ ap (λ (t : Change). t .count) q) z)
+    comes d s p n z (inr i) = Memᴰ·append-right (entryOf (t .place) (t .colour) (t .count)) (m .back d (set s i p n z))
+
+    back : (d : Entry) → From own (t ∷ ts) d → List·Memᴰ d (entryOf (t .place) (t .colour) (t .count) ++ m .entries)
+    back d (kept i u) = stays d u (g d i)
+    back d (set s i p n z) = comes d s p n z (List·Memᴰ·cases-cons i)
+
+-- along the entries up to a change, given the merge of those after it
+walk : (ws : List ℕ) (t : Change) (ts : List Change) → ((src : ℕ) (es : List Entry) → Rest ws src es ts → Merged ws src es ts) → (es : List Entry) (src : ℕ) → Rest ws src es (t ∷ ts) → Merged ws src es (t ∷ ts)
+unfolding flatMap
+walk ws t ts f [] src r =
+    let p = no-entry src [] t tt (r .placed .0) in
+    let i = p .0 in
+    let j = p .1 in
+    let w = r .whole in
+    let e : src ≡ t .at + t .old = omega arith in
+    merged-set src [] t (p .0) (omega arith) tt (r .rising .0) (λ e k. k) (λ e k. inr k) (subst (λ (s : ℕ). Merged ws s [] ts) e (f src [] (rest-taken r)))
+walk ws t ts f (e ∷ es) src r = by (walk ws t ts f es) (before-total (entryKey e) (changeKey t))
+  where
+    total : length (wordsOf (e ∷ es)) ≡ length (wordsOfEntry e) + length (wordsOf es)
+    total = length-append (wordsOfEntry e) (wordsOf es)
+
+    own : entryKey e ≡ changeKey t → (d : Entry) → (d ≡ e) ⊎ List·Memᴰ d es → (entryKey d ≡ changeKey t) ⊎ List·Memᴰ d es
+    own q d (inl k) = inl (ap entryKey k ∙ q)
+    own q d (inr k) = inr k
+
+    by : ((src : ℕ) → Rest ws src es (t ∷ ts) → Merged ws src es (t ∷ ts)) → (before (entryKey e) (changeKey t) ≡ true) ⊎ ((entryKey e ≡ changeKey t) ⊎ (before (changeKey t) (entryKey e) ≡ true)) → Merged ws src (e ∷ es) (t ∷ ts)
+    by g (inl b) =
+        let a : AfterAll (entryKey e) (t ∷ ts) = (b, afterAll-trans (entryKey e) (changeKey t) ts b (r .rising .0)) in
+        merged-past r a (g (src + length (wordsOfEntry e)) (rest-past r a))
+    by g (inr (inl q)) =
+        let p = own-entry src e es t q (r .rises) (r .some .0) (r .placed .0) in
+        let i = p .0 in
+        let j = p .1 in
+        let w = r .whole in
+        let l = total in
+        let a : AfterAll (entryKey e) ts = subst (λ (k : List ℤ). AfterAll k ts) (sym q) (r .rising .0) in
+        let h : After (changeKey t) es = subst (λ (k : List ℤ). After k es) q (r .rises .0) in
+        let z : src + length (wordsOfEntry e) ≡ t .at + t .old = omega arith in
+        merged-set src (e ∷ es) t (p .0) (omega arith) h (r .rising .0) (λ d k. List·Memᴰ·tail k) (λ d k. own q d (List·Memᴰ·cases-cons k)) (subst (λ (s : ℕ). Merged ws s es ts) z (f (src + length (wordsOfEntry e)) es (rest-past (rest-taken r) a)))
+    by g (inr (inr b)) =
+        let h : After (changeKey t) (e ∷ es) = (b, after-trans (changeKey t) (entryKey e) es b (r .rises .0)) in
+        let p = no-entry src (e ∷ es) t h (r .placed .0) in
+        let i = p .0 in
+        let j = p .1 in
+        let w = r .whole in
+        let z : src ≡ t .at + t .old = omega arith in
+        merged-set src (e ∷ es) t (p .0) (omega arith) h (r .rising .0) (λ d k. k) (λ d k. inr k) (subst (λ (s : ℕ). Merged ws s (e ∷ es) ts) z (f src (e ∷ es) (rest-taken r)))
+
+merge : (ws : List ℕ) (ts : List Change) (src : ℕ) (es : List Entry) → Rest ws src es ts → Merged ws src es ts
+merge ws [] src es r = merged-none r
+merge ws (t ∷ ts) src es r = walk ws t ts (merge ws ts) es src r
+
+-- the change of a key, if there is one
+touched : (us : List Change) (k : List ℤ) → ((t : Change) × List·Memᴰ t us × (changeKey t ≡ k)) ⊎ Untouched us k
+touched [] k = inr (λ t i q. List·Memᴰ·not-nil i)
+touched (u ∷ us) k = by (touched us k) (before-total (changeKey u) k)
+  where
+    apart : (changeKey u ≡ k → ⊥) → Untouched us k → (t : Change) → changeKey t ≡ k → (t ≡ u) ⊎ List·Memᴰ t us → ⊥
+    apart d f t q (inl p) = d (ap changeKey (sym p) ∙ q)
+    apart d f t q (inr i) = f t i q
+
+    later : (changeKey u ≡ k → ⊥) → ((t : Change) × List·Memᴰ t us × (changeKey t ≡ k)) ⊎ Untouched us k → ((t : Change) × List·Memᴰ t (u ∷ us) × (changeKey t ≡ k)) ⊎ Untouched (u ∷ us) k
+    later d (inl (t, i, q)) = inl (t, List·Memᴰ·tail i, q)
+    later d (inr f) = inr (λ t i q. apart d f t q (List·Memᴰ·cases-cons i))
+
+    by : ((t : Change) × List·Memᴰ t us × (changeKey t ≡ k)) ⊎ Untouched us k → (before (changeKey u) k ≡ true) ⊎ ((changeKey u ≡ k) ⊎ (before k (changeKey u) ≡ true)) → ((t : Change) × List·Memᴰ t (u ∷ us) × (changeKey t ≡ k)) ⊎ Untouched (u ∷ us) k
+    by h (inl b) = later (differ (changeKey u) k b) h
+    by h (inr (inl q)) = inl (u, List·Memᴰ·head refl, q)
+    by h (inr (inr b)) = later (λ q. differ k (changeKey u) b (sym q)) h
+
+-- ── The theorem ──
+
+-- the changes of a marking that was read, from its first word on
+module _ (ps : List Place) (ws : List ℕ) (es : List Entry) (next : ℕ) (r : markingRead ps ws ≡ read es next) where
+  accepted : Accepted ps ws [] 0 es next
+  unfolding markingRead
+  accepted = entries-read (length ws) ps ws [] 0 es next (omega arith) (numbered-read badMarking (readEntries (length ws) ps ws [] 0) es next r)
+
+  module _ (net : Net) (m′ : Counts) (ts : List Change) (x : Changing net es m′ ts) where
+    start : Rest ws 0 es ts
+    start =
+        let a = accepted in
+        let n = a .span .after in
+        let e = a .ended in
+        record {
+          spelled = a .span .split ∙ ap (λ (i : ℕ). wordsOf es ++ drop i ws) e ∙ ap (λ (l : List ℕ). wordsOf es ++ l) (drop-length ws) ∙ append-nil (wordsOf es);
+          whole = omega arith;
+          rises = a .rises;
+          some = Every-of (λ (e : Entry). 1 ≤ e .count) es (λ d k. Every-at (Good ps) (a .good) k .some);
+          rising = x .rises;
+          placed = Every-of (Placed 0 es) ts (λ t k. let h = Every-at (Told es m′) (x .told) k in let i = h .at in record { at = omega arith; old = h .old });
+        }
+
+    merged : Merged ws 0 es ts
+    merged = merge ws ts 0 es start
+
+    -- an entry merged has its new count
+    new-count : (e : Entry) → From es ts e → (e .count ≡ m′ (e .place) (e .colour)) × (1 ≤ e .count)
+    new-count e (kept i u) = (sym (counts-member es (accepted .rises) e i) ∙ sym (x .kept (e .place) (e .colour) u), Every-at (Good ps) (accepted .good) i .some)
+    new-count e (set t i q n s) =
+        let h = Every-at (Told es m′) (x .told) i in
+        let y : t .place ≡ e .place = cc q in
+        let z : t .colour ≡ e .colour = cc q in
+        (n ∙ h .count ∙ ap (λ (p : ℕ). m′ p (t .colour)) y ∙ ap (m′ (e .place)) z, s)
+
+    good : Every (Good (net .places)) (merged .entries)
+    good = Every-of (Good (net .places)) (merged .entries) (λ e i. by e (new-count e (merged .forth e i)))
+      where
+        by : (e : Entry) → (e .count ≡ m′ (e .place) (e .colour)) × (1 ≤ e .count) → Good (net .places) e
+        by e (n, s) =
+            let o : 1 ≤ m′ (e .place) (e .colour) = omega arith in
+            let l = x .proper .limited (e .place) (e .colour) in
+            record { placed = x .proper .placed (e .place) (e .colour) o; some = s; limited = omega arith; ranged = x .proper .ranged (e .place) (e .colour) o }
+
+    -- a new count has its entry
+    has-entry : (p : ℕ) (c : List ℤ) → 1 ≤ m′ p c → List·Memᴰ (record { place = p; count = m′ p c; colour = c }) (merged .entries)
+    has-entry p c s = merged .back (record { place = p; count = m′ p c; colour = c }) (by (touched ts (key p c)))
+      where
+        by : ((t : Change) × List·Memᴰ t ts × (changeKey t ≡ key p c)) ⊎ Untouched ts (key p c) → From es ts (record { place = p; count = m′ p c; colour = c })
+        by (inl (t, i, q)) =
+            let y : t .place ≡ p = cc q in
+            let z : t .colour ≡ c = cc q in
+            set t i q (sym (Every-at (Told es m′) (x .told) i .count ∙ ap (λ (n : ℕ). m′ n (t .colour)) y ∙ ap (m′ p) z)) s
+        by (inr u) =
+            let n = x .kept p c u in
+            let f = counts-some es p c (omega arith) in
+            let o : f .entry .count ≡ countsOf es p c = sym (counts-member es (accepted .rises) (f .entry) (f .member)) ∙ ap (λ (q : ℕ). countsOf es q (f .entry .colour)) (f .place) ∙ ap (countsOf es p) (f .colour) in
+            kept (Memᴰ·cast (entry-path (record { place = p; count = m′ p c; colour = c }) (f .entry) (sym (f .place)) (n ∙ sym o) (sym (f .colour))) (f .member)) u
+
+    same-counts : (p : ℕ) (c : List ℤ) → countsOf (merged .entries) p c ≡ m′ p c
+    same-counts p c = by (m′ p c) refl (countsOf (merged .entries) p c) refl
+      where
+        by : (n : ℕ) → m′ p c ≡ n → (k : ℕ) → countsOf (merged .entries) p c ≡ k → k ≡ n
+        by zero q zero s = refl
+        by zero q (suc k) s =
+            let f = counts-some (merged .entries) p c (omega arith) in
+            let n = new-count (f .entry) (merged .forth (f .entry) (f .member)) in
+            let o : f .entry .count ≡ m′ p c = n .0 ∙ ap (λ (q : ℕ). m′ q (f .entry .colour)) (f .place) ∙ ap (m′ p) (f .colour) in
+            let z = n .1 in
+            absurd (omega arith)
+        by (suc n) q k s = sym s ∙ counts-member (merged .entries) (merged .rises) (record { place = p; count = m′ p c; colour = c }) (has-entry p c (omega arith)) ∙ q
+
+    -- The words of a marking with the changes made are the words of the new counts.
+    pub patched-words : patched ws 0 ts ≡ markingWords net m′
+    patched-words =
+        let counts : countsOf (merged .entries) ≡ m′ = fun-ext (λ p. fun-ext (λ c. same-counts p c)) in
+        merged .spelled
+        ∙ ap wordsOf (sym (entries-again net (merged .entries) (merged .rises) good))
+        ∙ entriesOf-words net (countsOf (merged .entries))
+        ∙ ap (markingWords net) counts
+
+    -- Such changes stand in order.
+    pub patched-ordered : InOrder ws 0 ts
+    patched-ordered = record { apart = merged .apart }
+
+-- ── The length ──
+
+pub apart-inside : (end src : ℕ) (ts : List Change) → Apart end src ts → src ≤ end
+apart-inside end src [] a = a
+apart-inside end src (t ∷ ts) a = let h = a .0 in let k = a .1 in omega arith
+
+length-from : (ws : List ℕ) (src : ℕ) (ts : List Change) → Apart (length ws) src ts → length (patched ws src ts) + (src + oldLength ts) ≡ length ws + newLength ts
+unfolding patched oldLength newLength
+length-from ws src [] a = omega (arith, length-drop src ws)
+length-from ws src (t ∷ ts) a =
+    let h = a .0 in
+    let k = a .1 in
+    let i = length-from ws (t .at + t .old) ts (a .2) in
+    let x : List ℕ = entryWords (t .place) (t .colour) (t .count) in
+    let y : List ℕ = patched ws (t .at + t .old) ts in
+    omega (arith, length-append (slice src (t .at) ws) (x ++ y), length-append x y, length-slice src (t .at) ws (omega arith))
+
+-- The length of the words with the changes made: that of the words, without the old entries, with the new ones.
+pub patched-size : (ws : List ℕ) (ts : List Change) → InOrder ws 0 ts → length (patched ws 0 ts) + oldLength ts ≡ length ws + newLength ts
+patched-size ws ts o = let h = length-from ws 0 ts (o .apart) in omega arith
