@@ -16,7 +16,7 @@ use Rattle.expression.specs.declared.read.Skipped.the-variants.{Next, Refused}
 use Rattle.expression.specs.Skip.{forget, skipped}
 use Rattle.net.specs.declared.take.Taken.{Taken}
 use Rattle.net.specs.declared.take.Taken.the-variants.{Word, Refused as TakeRefused}
-use Rattle.net.specs.Skim.{fitsKind, starts, skimOne, Outline, skimTransition}
+use Rattle.net.specs.Skim.{fitsKind, starts, skimRange, skimOne, Outline, skimTransition}
 use Rattle.net.specs.Index.{Takes, IsTaken, refusalOf, upTo}
 use Rattle.net.proofs.Structures.{word-refused, word-taken, next-fits}
 
@@ -57,7 +57,7 @@ module _ (ws widths : List ℕ) (w : ℕ) where
   inputsLeft at = then (starts (w / 16 % 16) (skimOne ws widths (w % 16) 5) at) outputsLeft
 
   unfoldable rangesLeft : Reader Outline
-  rangesLeft at = then (forget (starts (w % 16) (skimOne ws widths (w % 16) 3) at)) (λ u next. inputsLeft next)
+  rangesLeft at = then (forget (starts (w % 16) (skimRange ws) at)) (λ u next. inputsLeft next)
 
 -- ── The word ──
 
@@ -73,9 +73,6 @@ module _ {ws : List ℕ} {at : ℕ} {t : Taken} (w : IsTaken ws at 4 t) {p : ℕ
   numbers : (leb (p / 1 % 16) 8 ≡ true) × (leb (p / 16 % 16) 8 ≡ true) × (leb (p / 256 % 16) 8 ≡ true) × (leb (p / 4096 % 16) 8 ≡ true) × (leb (p / 65536 % 16) 8 ≡ true)
   unfolding fitsKind
   numbers = five-of (only 20 p) (leb (p / 1 % 16) 8) (leb (p / 16 % 16) 8) (leb (p / 256 % 16) 8) (leb (p / 4096 % 16) 8) (leb (p / 65536 % 16) 8) (subst (Takes ws at 4) e (w .exists) .fits)
-
-  pub few-variables : p % 16 ≤ 8
-  few-variables = let h : p / 1 % 16 ≤ 8 = leb-true (p / 1 % 16) 8 (numbers .0) in omega arith
 
   pub few-inputs : p / 16 % 16 ≤ 8
   few-inputs = leb-true (p / 16 % 16) 8 (numbers .1)
@@ -102,10 +99,10 @@ module _ (ws widths : List ℕ) (at : ℕ) {t : Taken} (w : IsTaken ws at 4 t) w
 
   module _ {p : ℕ} (e : t ≡ Word p) where
     ranges-left : skimTransition ws widths at ≡ rangesLeft ws widths p (at + 1)
-    unfolding skimTransition rangesLeft inputsLeft outputsLeft guardLeft planLeft
+    unfolding skimTransition skimOne rangesLeft inputsLeft outputsLeft guardLeft planLeft
     ranges-left = let h : p / 1 ≡ p = omega arith in rw (word-taken w e, h)
 
-    module _ {ranges : Skipped} (rs : List ℕ) (a : upTo ranges rs ≡ starts (p % 16) (skimOne ws widths (p % 16) 3) (at + 1)) where
+    module _ {ranges : Skipped} (a : skipped ranges ≡ forget (starts (p % 16) (skimRange ws) (at + 1))) where
       pub ranges-refused : {m q : ℕ} {end : Skipped} (o : Outline) → ranges ≡ Refused m q → end ≡ ranges → upTo end o ≡ skimTransition ws widths at
       unfolding rangesLeft
       ranges-refused o d f = upTo-refused o (rw (ranges-left, ← a, d)) (f ∙ d)
@@ -149,4 +146,4 @@ module _ (ws widths : List ℕ) (at : ℕ) {t : Taken} (w : IsTaken ws at 4 t) w
                     unfolding planLeft
                     plan-ends plan es b = then-gives plan es (λ es. record { variables = p % 16; inputs = is; outputs = os; guard = gs; plan = es }) b ∙ sym plan-left
 
-pub ruleset transitions = (needs, next-fits, few-variables, few-inputs, few-outputs, few-conjuncts, few-elements, transition-refused, ranges-refused, inputs-refused, outputs-refused, guard-refused, plan-ends)
+pub ruleset transitions = (needs, next-fits, few-inputs, few-outputs, few-conjuncts, few-elements, transition-refused, ranges-refused, inputs-refused, outputs-refused, guard-refused, plan-ends)

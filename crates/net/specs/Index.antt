@@ -11,7 +11,6 @@ use Rattle.net.specs.declared.take.Taken.{Taken}
 use Rattle.net.specs.declared.take.Taken.the-variants.{Word, Refused as TakeRefused}
 use Rattle.expression.specs.declared.read.Skipped.{Skipped}
 use Rattle.expression.specs.declared.read.Skipped.the-variants.{Next, Refused}
-use Rattle.net.specs.declared.skim.Positions.{Positions}
 use Rattle.net.specs.declared.index.TransitionIndex.{TransitionIndex}
 use Rattle.net.specs.declared.index.PlaceIndex.{PlaceIndex}
 use Rattle.net.specs.declared.index.Places.{Places}
@@ -49,10 +48,6 @@ refusalOf (TakeRefused n q) = Refused n q
 abbrev pub upTo : {A : Type 0} → Skipped → A → Reading A
 upTo (Next next) a = read a next
 upTo (Refused n p) a = refused n p
-
--- where n structures begin
-abbrev pub positions : ℕ → Positions → Reading (List ℕ)
-positions n r = upTo (r .end) (take n (r .at))
 
 abbrev pub outlined : TransitionIndex → Outline
 outlined r =

@@ -1,4 +1,5 @@
 // Where the structures of a net begin, by value, for the calls that work on the net afterwards.
+use crate::skim::skip_ranges;
 use crate::skim::skip_several;
 use crate::take::Taken;
 use crate::take::take;
@@ -55,43 +56,38 @@ pub fn read_transition(words: &[u32], widths: &[usize], at: usize) -> Transition
     let outputs = (w / 256 % 16) as usize;
     let conjuncts = (w / 4096 % 16) as usize;
     let elements = (w / 65536 % 16) as usize;
-    let ranges = skip_several(words, widths, variables, 3, variables, at + 1);
-    let ranges_end = ranges.end;
-    let Skipped::Next(inputs_from) = ranges_end else {
+    let mut ins = [0usize; 8];
+    let mut outs = [0usize; 8];
+    let mut guard = [0usize; 8];
+    let mut plan = [0usize; 8];
+    let ranges_end = skip_ranges(words, variables, at + 1);
+    let Skipped::Next(next) = ranges_end else {
         return ending(ranges_end);
     };
-    let ins = skip_several(words, widths, variables, 5, inputs, inputs_from);
-    let ins_end = ins.end;
-    let Skipped::Next(outputs_from) = ins_end else {
+    let ins_end = skip_several(words, widths, variables, 5, &mut ins, inputs, next);
+    let Skipped::Next(next) = ins_end else {
         return ending(ins_end);
     };
-    let outs = skip_several(words, widths, variables, 5, outputs, outputs_from);
-    let outs_end = outs.end;
-    let Skipped::Next(conjuncts_from) = outs_end else {
+    let outs_end = skip_several(words, widths, variables, 5, &mut outs, outputs, next);
+    let Skipped::Next(next) = outs_end else {
         return ending(outs_end);
     };
-    let guard = skip_several(words, widths, variables, 6, conjuncts, conjuncts_from);
-    let guard_end = guard.end;
-    let Skipped::Next(elements_from) = guard_end else {
+    let guard_end = skip_several(words, widths, variables, 6, &mut guard, conjuncts, next);
+    let Skipped::Next(next) = guard_end else {
         return ending(guard_end);
     };
-    let plan = skip_several(words, widths, variables, 10, elements, elements_from);
-    let plan_end = plan.end;
-    let ins_at = ins.at;
-    let outs_at = outs.at;
-    let guard_at = guard.at;
-    let plan_at = plan.at;
+    let end = skip_several(words, widths, variables, 10, &mut plan, elements, next);
     TransitionIndex {
-        end: plan_end,
+        end: end,
         variables: variables,
         inputs: inputs,
         outputs: outputs,
         conjuncts: conjuncts,
         elements: elements,
-        inputs_at: ins_at,
-        outputs_at: outs_at,
-        conjuncts_at: guard_at,
-        elements_at: plan_at,
+        inputs_at: ins,
+        outputs_at: outs,
+        conjuncts_at: guard,
+        elements_at: plan,
     }
 }
 
@@ -118,9 +114,7 @@ fn read_place(words: &[u32], at: usize) -> PlaceIndex
     match take(words, at, 2) {
         Taken::Word(p) => {
             let n = p as usize;
-            let none = [0usize; 1];
-            let ranges = skip_several(words, &none[..0], 0, 3, n, at + 1);
-            let end = ranges.end;
+            let end = skip_ranges(words, n, at + 1);
             PlaceIndex { end: end, width: n }
         }
         Taken::Refused(m, s) => PlaceIndex {

@@ -10,13 +10,18 @@ use Rattle.net.proofs.skim.skip_several.Statement.{statement}
 use Rattle.net.proofs.skim.skip_several.Tie as tie
 
 abbrev Inv-loop : tie.InvT-loop
-Inv-loop words widths variables k n at begins₀ i₀ next₀ begins i next = Collected (skimOne words widths variables k) n at i next begins × (length begins ≡ 8)
+Inv-loop words widths variables k begins₀ n at i₀ next₀ begins i next = Collected (skimOne words widths variables k) n at i next begins × (length begins ≡ length begins₀)
 
 abbrev μ-loop : tie.MeasureT-loop
-μ-loop words widths variables k n at begins₀ i₀ next₀ begins i next = n - i
+μ-loop words widths variables k begins₀ n at i₀ next₀ begins i next = n - i
 
 loop-holds : tie.Need-loop-holds Inv-loop μ-loop
 loop-holds c = (collected-start _ _ _ _, refl)
+
+same-length : tie.Need-same-length Inv-loop μ-loop
+same-length c =
+    let lp = c .before .before .before .before .before .loop in
+    length-set (lp .begins) (lp .i) (lp .next) ∙ lp .inv .1
 
 returns : tie.Need-returns Inv-loop μ-loop
 returns c = search looping
@@ -25,6 +30,9 @@ loop-again : tie.Need-loop-again Inv-loop μ-loop
 loop-again c =
     let lp = c .before .before .before .before .before .loop in
     (collected-goes (lp .inv .0) (omega arith) (c .before .before .before .skip-one .ensures) (omega arith) (c .before .p .given .1), length-set (lp .begins) (lp .i) (lp .next) ∙ lp .inv .1)
+
+same-length-2 : tie.Need-same-length-2 Inv-loop μ-loop
+same-length-2 c = c .before .loop .inv .1
 
 returns-2 : tie.Need-returns-2 Inv-loop μ-loop
 returns-2 c = search looping
@@ -41,8 +49,10 @@ skip-several-spec =
     (λ c κs. search needs)
     (λ c. search needs)
     (λ c. search needs)
+    same-length
     returns
     (λ c. omega arith)
     (λ c. omega arith)
     loop-again
+    same-length-2
     returns-2)
