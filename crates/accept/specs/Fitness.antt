@@ -52,6 +52,10 @@ unfoldable pub solveAt : List ℕ → ℕ → (ℕ → Bool) → ℕ → List �
 solveAt ws v isBound at =
     after (word ws 6 (fitsKind 6) at) (λ k left. cond (eqb k 0) (after (skimExpression ws v left) (λ u right. after (skimExpression ws v right) (λ u end. firstOf (solvedAt ws v isBound left right end) (solvedAt ws v isBound right left right)))) [])
 
+-- what the elements of a plan name: variables, input arcs and conjuncts
+abbrev pub planParts : ℕ → List ℕ → List ℕ → Outline
+planParts v inputs guard = record { variables = v; inputs = inputs; outputs = []; guard = guard; plan = [] }
+
 abbrev pub atMember : Option ℕ → (ℕ → List ℕ) → List ℕ
 atMember none k = []
 atMember (some at) k = k at

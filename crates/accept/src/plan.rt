@@ -6,31 +6,30 @@ use crate::element::Sort;
 use crate::element::element_of;
 use crate::solve::bind_solve;
 use expression::read::Skipped;
-use net::index::TransitionIndex;
 use net::index::read_transition;
 use net::take::Taken;
 use net::take::take;
 ghost use mathlib.Core.Path.{_≡_};
-ghost use mathlib.Core.Bool.{cond};
+ghost use mathlib.Core.Bool.{false, cond};
 ghost use mathlib.Core.Option.{none, some};
 ghost use Prim.Native.Nat.{_≤_, min};
 ghost use Rattle.semantics.specs.Plan.{everyBelow};
-ghost use Rattle.net.specs.Index.{outlined};
-ghost use Rattle.accept.specs.Fitness.{bindsAt, transitionFault, faultAmong};
+ghost use Rattle.accept.specs.Fitness.{planParts, bindsAt, faultFrom, transitionFault, faultAmong};
 ghost use Rattle.accept.specs.Plan.{marked, fresh, IsBound, sorted, fault};
 
-// The variables that an element of a transition binds.
+// The variables that an element of a transition binds, whose input arcs and conjuncts begin at these positions.
 fn newly_bound(
     words: &[u32],
     widths: &[usize],
-    t: TransitionIndex,
+    variables: usize,
+    inputs: &[usize],
+    conjuncts: &[usize],
     marks: [bool; 8],
     e: Element,
 ) -> Bound
-    requires { ⌜ t .variables ≤ 8 ⌝ }
-    ensures { λ r. ⌜ IsBound (fresh marks) (bindsAt (now (words .entry)) (now (widths .entry)) (outlined t) (marked marks) (sorted (e .sort))) r ⌝ }
+    requires { ⌜ variables ≤ 8 ⌝ }
+    ensures { λ r. ⌜ IsBound (fresh marks) (bindsAt (now (words .entry)) (now (widths .entry)) (planParts variables (now (inputs .entry)) (now (conjuncts .entry))) (marked marks) (sorted (e .sort))) r ⌝ }
 {
-    let variables = t.variables;
     let sort = e.sort;
     let mut b = Bound {
         some: false,
@@ -38,24 +37,16 @@ fn newly_bound(
     };
     match sort {
         Sort::Match(k) => {
-            if t.inputs <= k {
+            if inputs.len() <= k {
                 return b;
             }
-            if 8 <= k {
-                return b;
-            }
-            let at = t.inputs_at[k];
-            bind_match(words, widths, variables, b, at)
+            bind_match(words, widths, variables, b, inputs[k])
         }
         Sort::Solve(k) => {
-            if t.conjuncts <= k {
+            if conjuncts.len() <= k {
                 return b;
             }
-            if 8 <= k {
-                return b;
-            }
-            let at = t.conjuncts_at[k];
-            bind_solve(words, variables, b, at)
+            bind_solve(words, variables, b, conjuncts[k])
         }
         Sort::Range(n) => {
             if variables <= n {
@@ -99,8 +90,40 @@ pub fn at_most(most: usize, n: usize) -> usize
     if n < most { n } else { most }
 }
 
+// The fault of a plan whose elements begin at these positions, as do the transition's input arcs and conjuncts; the transition is at `at`.
+fn plan_fault(
+    words: &[u32],
+    widths: &[usize],
+    variables: usize,
+    inputs: &[usize],
+    conjuncts: &[usize],
+    elements: &[usize],
+    at: usize,
+) -> Fault
+    requires { ⌜ variables ≤ 8 ⌝ }
+    ensures { λ r. ⌜ fault r ≡ faultFrom (now (words .entry)) (now (widths .entry)) (planParts variables (now (inputs .entry)) (now (conjuncts .entry))) at (λ k. false) (now (elements .entry)) ⌝ }
+{
+    let mut marks = [false; 8];
+    let mut i = 0;
+    while i < elements.len() {
+        let p = elements[i];
+        let head = take(words, p, 10);
+        let Taken::Word(w) = head else {
+            return Fault::At(p);
+        };
+        let e = element_of(w);
+        let b = newly_bound(words, widths, variables, inputs, conjuncts, marks, e);
+        if !b.some {
+            return Fault::At(p);
+        }
+        marks = b.marks;
+        i += 1;
+    }
+    unbound(variables, marks, at)
+}
+
 // The fault of the plan of the transition at a position.
-fn plan_fault(words: &[u32], widths: &[usize], at: usize) -> Fault
+fn transition_fault(words: &[u32], widths: &[usize], at: usize) -> Fault
     ensures { λ r. ⌜ fault r ≡ transitionFault (now (words .entry)) (now (widths .entry)) at ⌝ }
 {
     let t = read_transition(words, widths, at);
@@ -108,23 +131,16 @@ fn plan_fault(words: &[u32], widths: &[usize], at: usize) -> Fault
     let Skipped::Next(_) = end else {
         return Fault::Nothing;
     };
+    let inputs = at_most(8, t.inputs);
+    let conjuncts = at_most(8, t.conjuncts);
     let elements = at_most(8, t.elements);
-    let mut marks = [false; 8];
-    let mut i = 0;
-    while i < elements {
-        let p = t.elements_at[i];
-        let head = take(words, p, 10);
-        let Taken::Word(w) = head else {
-            return Fault::At(p);
-        };
-        let b = newly_bound(words, widths, t, marks, element_of(w));
-        if !b.some {
-            return Fault::At(p);
-        }
-        marks = b.marks;
-        i += 1;
-    }
-    unbound(t.variables, marks, at)
+    let ins = t.inputs_at;
+    let guard = t.conjuncts_at;
+    let plan = t.elements_at;
+    let ins = &ins[..inputs];
+    let guard = &guard[..conjuncts];
+    let plan = &plan[..elements];
+    plan_fault(words, widths, t.variables, ins, guard, plan, at)
 }
 
 // The first fault of the plans of the transitions at these positions.
@@ -133,7 +149,7 @@ pub fn first_fault(words: &[u32], widths: &[usize], transitions: &[usize]) -> Fa
 {
     let mut i = 0;
     while i < transitions.len() {
-        match plan_fault(words, widths, transitions[i]) {
+        match transition_fault(words, widths, transitions[i]) {
             Fault::At(p) => {
                 return Fault::At(p);
             }
