@@ -3,7 +3,7 @@
 use mathlib.Core.Path.{_≡_, refl, sym, ap, _∙_, fun-ext}
 use Prim.Native.Nat.{ℕ, zero, suc, _+_, _-_, _≤_, _<_, min}
 use mathlib.Core.Bool.{Bool, true, false, cond, _||_}
-use mathlib.Core.List.{List, [], _∷_}
+use mathlib.Core.List.{List, [], _∷_, _++_}
 use mathlib.Core.Option.{Option, none, some}
 use native.Mathlib.Numerals.{add-one}
 use native.Mathlib.Omega.{arith}
@@ -21,9 +21,10 @@ use Rattle.semantics.proofs.Readers.{Gives, gives, given, then-gives, as-read, 
 use Rattle.expression.specs.declared.read.Skipped.{Skipped}
 use Rattle.expression.specs.declared.read.Skipped.the-variants.{Next, Refused}
 use Rattle.expression.specs.Skip.{forget}
-use Rattle.net.specs.Skim.{fitsKind, starts, skimOne, Outline, skimTransition}
+use Rattle.net.specs.Skim.{fitsKind, starts, skimOne, Outline, skimTransition, skimTransitions}
 use Rattle.semantics.specs.Word.{bits, only}
-use Rattle.net.proofs.Transitions.{five-of}
+use Rattle.net.proofs.Loops.{Collected, collected-start, collected-goes, collected-stops, collected-end, take-set}
+use Rattle.net.proofs.Transitions.{five-of, skips}
 use Rattle.net.specs.declared.take.Taken.{Taken}
 use Rattle.net.specs.declared.take.Taken.the-variants.{Word, Refused as TakeRefused}
 use Rattle.net.specs.declared.index.TransitionIndex.{TransitionIndex}
@@ -32,9 +33,10 @@ use Rattle.accept.specs.declared.bind.Bound.{Bound}
 use Rattle.accept.specs.declared.element.Sort.{Sort}
 use Rattle.accept.specs.declared.element.Sort.the-variants.{Match, Solve, Range}
 use Rattle.accept.specs.declared.plan.Fault.{Fault}
-use Rattle.accept.specs.declared.plan.Fault.the-variants.{At, Nothing}
+use Rattle.accept.specs.declared.plan.Fault.the-variants.{Nothing}
+use Rattle.accept.specs.declared.plan.Reviewed.{Reviewed}
 use Rattle.accept.specs.Fitness.{matchAt, solveAt, bindsAt, planParts, elementOr, faultFrom, faultIn, transitionFault, firstFault, faultAmong}
-use Rattle.accept.specs.Plan.{sorted, marked, nonEmpty, fresh, IsBound, fault}
+use Rattle.accept.specs.Plan.{sorted, marked, nonEmpty, fresh, IsBound, fault, IsReviewed, AreReviewed}
 use Rattle.accept.proofs.Binding.{bound-none, bound-new}
 use Rattle.accept.proofs.Checking.{take-least}
 
@@ -121,30 +123,6 @@ module _ (ws widths : List ℕ) (v : ℕ) (inputs guard : List ℕ) (marks : Lis
   unfolding bindsAt
   range-new {n} e h i l m = rw (e, lt-ltb n v i, m) (bound-new (fresh marks) n (omega arith))
 
--- ── Transitions, one after the other ──
-
-pub record Unfaulted (ws widths ats : List ℕ) (i : ℕ) : Type 0 where
-  pub inside : i ≤ length ats
-  pub same : faultAmong ws widths ats ≡ faultAmong ws widths (drop i ats)
-
-pub unfaulted-start : (ws widths ats : List ℕ) → Unfaulted ws widths ats 0
-unfaulted-start ws widths ats = record { inside = omega arith; same = refl }
-
-module _ (ws widths ats : List ℕ) {i : ℕ} (a : Unfaulted ws widths ats i) where
-  first-of : i < length ats → faultAmong ws widths ats ≡ firstFault (transitionFault ws widths (getD ats i 0)) (faultAmong ws widths (drop (i + 1) ats))
-  unfolding faultAmong
-  first-of h = a .same ∙ ap (faultAmong ws widths) (drop-cons ats i 0 h ∙ ap (λ (k : ℕ). getD ats i 0 ∷ drop k ats) (sym (add-one i)))
-
-  pub faulted : {r : Fault} {p : ℕ} → i < length ats → fault r ≡ transitionFault ws widths (getD ats i 0) → r ≡ At p → some p ≡ faultAmong ws widths ats
-  faulted h e d = sym (first-of h ∙ ap (λ (o : Option ℕ). firstFault o (faultAmong ws widths (drop (i + 1) ats))) (sym e ∙ ap fault d))
-
-  pub unfaulted-turn : {r : Fault} → i < length ats → fault r ≡ transitionFault ws widths (getD ats i 0) → r ≡ Nothing → Unfaulted ws widths ats (i + 1)
-  unfaulted-turn h e d = record { inside = omega arith; same = first-of h ∙ ap (λ (o : Option ℕ). firstFault o (faultAmong ws widths (drop (i + 1) ats))) (sym e ∙ ap fault d) }
-
-  pub unfaulted-end : length ats ≤ i → none ≡ faultAmong ws widths ats
-  unfolding faultAmong
-  unfaulted-end h = sym (a .same ∙ ap (faultAmong ws widths) (drop-of-length-le ats {i = i} h))
-
 -- ── Elements, one after the other ──
 
 -- no element so far is at fault
@@ -201,8 +179,8 @@ outline-few ws widths at =
     given-fits : (ws : List ℕ) (at : ℕ) → Gives (λ (w : ℕ) (next : ℕ). bits 0 3 w ≤ 8) (word ws 4 (fitsKind 4) at)
     given-fits ws at = weaken (λ w next p. leb-true (bits 0 3 w) 8 (five-of (only 20 w) (leb (bits 0 3 w) 8) (leb (bits 4 7 w) 8) (leb (bits 8 11 w) 8) (leb (bits 12 15 w) 8) (leb (bits 16 19 w) 8) (p .0) .0)) (word-reads ws 4 (fitsKind 4) at)
 
-pub unread-fault : (ws widths : List ℕ) (at : ℕ) (t : TransitionIndex) {n p : ℕ} → transitionRead t ≡ skimTransition ws widths at → t .end ≡ Refused n p → none ≡ transitionFault ws widths at
-unread-fault ws widths at t x e = sym (ap (faultIn ws widths at) (sym x ∙ ap (λ (k : Skipped). upTo k (outlined t)) e))
+pub unread-plan : (ws widths : List ℕ) (at : ℕ) (t : TransitionIndex) {n p : ℕ} → transitionRead t ≡ skimTransition ws widths at → t .end ≡ Refused n p → IsReviewed ws widths at (record { end = t .end; fault = Nothing })
+unread-plan ws widths at t x e = record { ends = skips (t .end) (outlined t) x; faults = sym (ap (faultIn ws widths at) (sym x ∙ ap (λ (k : Skipped). upTo k (outlined t)) e)) }
 
 pub planned-start : (ws widths : List ℕ) (o : Outline) (ps : List ℕ) (at : ℕ) → Planned ws widths o ps at (replicate 8 false) 0
 planned-start ws widths o ps at = record { inside = omega arith; same = ap (λ (p : ℕ → Bool). faultFrom ws widths o at p ps) (fun-ext (λ k. unmarked 8 k)) }
@@ -235,10 +213,57 @@ module _ (ws widths : List ℕ) (at : ℕ) (t : TransitionIndex) {next : ℕ} (x
   pub few-variables : t .variables ≤ 8
   few-variables = given (outline-few ws widths at) index-read
 
-  pub fault-of : {o : Option ℕ} (i g p : ℕ) → length (t .«inputs_at») ≡ 8 → length (t .«conjuncts_at») ≡ 8 → length (t .«elements_at») ≡ 8 → i ≡ min (t .inputs) 8 → g ≡ min (t .conjuncts) 8 → p ≡ min (t .elements) 8 → o ≡ faultFrom ws widths (planParts (t .variables) (take i (t .«inputs_at»)) (take g (t .«conjuncts_at»))) at (λ k. false) (take p (t .«elements_at»)) → o ≡ transitionFault ws widths at
-  fault-of i g p il gl pl ie ge pe y =
-      y
-      ∙ rw (take-least (t .«inputs_at») (t .inputs) 8 i il ie, take-least (t .«conjuncts_at») (t .conjuncts) 8 g gl ge, take-least (t .«elements_at») (t .elements) 8 p pl pe) (parts-fault ws widths (outlined t) at (λ k. false) (outlined t .plan))
-      ∙ sym (ap (faultIn ws widths at) index-read)
+  pub plan-read : (f : Fault) (i g p : ℕ) → length (t .«inputs_at») ≡ 8 → length (t .«conjuncts_at») ≡ 8 → length (t .«elements_at») ≡ 8 → i ≡ min (t .inputs) 8 → g ≡ min (t .conjuncts) 8 → p ≡ min (t .elements) 8 → fault f ≡ faultFrom ws widths (planParts (t .variables) (take i (t .«inputs_at»)) (take g (t .«conjuncts_at»))) at (λ k. false) (take p (t .«elements_at»)) → IsReviewed ws widths at (record { end = t .end; fault = f })
+  plan-read f i g p il gl pl ie ge pe y =
+      record {
+        ends = skips (t .end) (outlined t) x;
+        faults =
+            y
+            ∙ rw (take-least (t .«inputs_at») (t .inputs) 8 i il ie, take-least (t .«conjuncts_at») (t .conjuncts) 8 g gl ge, take-least (t .«elements_at») (t .elements) 8 p pl pe) (parts-fault ws widths (outlined t) at (λ k. false) (outlined t .plan))
+            ∙ sym (ap (faultIn ws widths at) index-read);
+      }
 
-pub ruleset faults = (needs, bounded-turn, bounded-stop, bounded-end, match-past, match-there, solve-past, solve-there, range-past, range-bound, range-new, plan-unread, plan-unfit, plan-turn, plan-end, faulted, unfaulted-turn, unfaulted-end)
+-- ── Transitions, one after the other ──
+
+-- one more transition
+among-last : (ws widths ats : List ℕ) (at : ℕ) → faultAmong ws widths (ats ++ (at ∷ [])) ≡ firstFault (faultAmong ws widths ats) (transitionFault ws widths at)
+unfolding faultAmong
+among-last ws widths [] at = by (transitionFault ws widths at)
+  where
+    by : (o : Option ℕ) → firstFault o none ≡ o
+    by none = refl
+    by (some p) = refl
+among-last ws widths (a ∷ ats) at = ap (firstFault (transitionFault ws widths a)) (among-last ws widths ats at) ∙ by (transitionFault ws widths a)
+  where
+    by : (o : Option ℕ) → firstFault o (firstFault (faultAmong ws widths ats) (transitionFault ws widths at)) ≡ firstFault (firstFault o (faultAmong ws widths ats)) (transitionFault ws widths at)
+    by none = refl
+    by (some p) = refl
+
+-- the i first of n transitions were read, and f is the first fault of their plans
+pub record Reviewing (ws widths : List ℕ) (n at i next : ℕ) (begins : List ℕ) (f : Fault) : Type 0 where
+  pub collected : Collected (skimTransitions ws widths) n at i next begins
+  pub faults : fault f ≡ faultAmong ws widths (take i begins)
+
+pub reviewing-start : (ws widths : List ℕ) (n at : ℕ) (begins : List ℕ) → Reviewing ws widths n at 0 at begins Nothing
+unfolding faultAmong
+reviewing-start ws widths n at begins = record { collected = collected-start (skimTransitions ws widths) n at begins; faults = refl }
+
+module _ {ws widths : List ℕ} {n at i next : ℕ} {begins : List ℕ} {f : Fault} (a : Reviewing ws widths n at i next begins f) where
+  pub reviewing-end : n ≤ i → AreReviewed ws widths n at begins (record { end = Next next; fault = f })
+  reviewing-end h =
+      let g = a .collected .gathered .inside in
+      let e : i ≡ n = omega arith in
+      record { same = collected-end (a .collected) h; faults = λ k d. rw e at (a .faults) }
+
+  module _ (h : i < n) {t : Reviewed} (x : IsReviewed ws widths next t) where
+    pub reviewing-goes : {p : ℕ} {g : Fault} → n ≤ length begins → t .end ≡ Next p → fault g ≡ firstFault (fault f) (fault (t .fault)) → Reviewing ws widths n at (i + 1) p (set begins i next) g
+    reviewing-goes l d e =
+        record {
+          collected = collected-goes (a .collected) h (x .ends) l d;
+          faults = e ∙ rw (a .faults, x .faults) (sym (among-last ws widths (take i begins) next)) ∙ sym (ap (faultAmong ws widths) (take-set begins i next (omega arith)));
+        }
+
+    pub reviewing-stops : {m q : ℕ} (begins′ : List ℕ) → t .end ≡ Refused m q → AreReviewed ws widths n at begins′ t
+    reviewing-stops begins′ d = record { same = rw d (collected-stops (a .collected) h (x .ends) d); faults = λ k e. let z : Refused _ _ ≡ Next k = sym d ∙ e in false-true (cc) }
+
+pub ruleset faults = (needs, bounded-turn, bounded-stop, bounded-end, match-past, match-there, solve-past, solve-there, range-past, range-bound, range-new, plan-unread, plan-unfit, plan-turn, plan-end, reviewing-end, reviewing-goes, reviewing-stops)

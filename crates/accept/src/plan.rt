@@ -13,9 +13,10 @@ ghost use mathlib.Core.Path.{_≡_};
 ghost use mathlib.Core.Bool.{false, cond};
 ghost use mathlib.Core.Option.{none, some};
 ghost use Prim.Native.Nat.{_≤_, min};
+ghost use lib.ListN.{length};
 ghost use Rattle.semantics.specs.Plan.{everyBelow};
-ghost use Rattle.accept.specs.Fitness.{planParts, bindsAt, faultFrom, transitionFault, faultAmong};
-ghost use Rattle.accept.specs.Plan.{marked, fresh, IsBound, sorted, fault};
+ghost use Rattle.accept.specs.Fitness.{planParts, bindsAt, faultFrom, firstFault};
+ghost use Rattle.accept.specs.Plan.{marked, fresh, IsBound, sorted, fault, IsReviewed, AreReviewed};
 
 // The variables that an element of a transition binds, whose input arcs and conjuncts begin at these positions.
 fn newly_bound(
@@ -122,14 +123,23 @@ fn plan_fault(
     unbound(variables, marks, at)
 }
 
-// The fault of the plan of the transition at a position.
-fn transition_fault(words: &[u32], widths: &[usize], at: usize) -> Fault
-    ensures { λ r. ⌜ fault r ≡ transitionFault (now (words .entry)) (now (widths .entry)) at ⌝ }
+// What was read of transitions: where they end or why they cannot be read, and the first fault of their plans.
+pub struct Reviewed {
+    pub end: Skipped,
+    pub fault: Fault,
+}
+
+// The transition at a position, with the fault of its plan.
+fn read_plan(words: &[u32], widths: &[usize], at: usize) -> Reviewed
+    ensures { λ r. ⌜ IsReviewed (now (words .entry)) (now (widths .entry)) at r ⌝ }
 {
     let t = read_transition(words, widths, at);
     let end = t.end;
     let Skipped::Next(_) = end else {
-        return Fault::Nothing;
+        return Reviewed {
+            end: end,
+            fault: Fault::Nothing,
+        };
     };
     let inputs = at_most(8, t.inputs);
     let conjuncts = at_most(8, t.conjuncts);
@@ -140,23 +150,51 @@ fn transition_fault(words: &[u32], widths: &[usize], at: usize) -> Fault
     let ins = &ins[..inputs];
     let guard = &guard[..conjuncts];
     let plan = &plan[..elements];
-    plan_fault(words, widths, t.variables, ins, guard, plan, at)
+    let fault = plan_fault(words, widths, t.variables, ins, guard, plan, at);
+    Reviewed {
+        end: end,
+        fault: fault,
+    }
 }
 
-// The first fault of the plans of the transitions at these positions.
-pub fn first_fault(words: &[u32], widths: &[usize], transitions: &[usize]) -> Fault
-    ensures { λ r. ⌜ fault r ≡ faultAmong (now (words .entry)) (now (widths .entry)) (now (transitions .entry)) ⌝ }
+// The first of two faults.
+fn first_of(a: Fault, b: Fault) -> Fault
+    ensures { λ r. ⌜ fault r ≡ firstFault (fault a) (fault b) ⌝ }
 {
-    let mut i = 0;
-    while i < transitions.len() {
-        match transition_fault(words, widths, transitions[i]) {
-            Fault::At(p) => {
-                return Fault::At(p);
-            }
-            Fault::Nothing => {
-                i += 1;
-            }
-        }
+    match a {
+        Fault::At(p) => Fault::At(p),
+        Fault::Nothing => b,
     }
-    Fault::Nothing
+}
+
+// n transitions, with the first fault of their plans; where each begins is written to the front of `begins`.
+pub fn read_plans(
+    words: &[u32],
+    widths: &[usize],
+    begins: &mut [usize],
+    n: usize,
+    at: usize,
+) -> Reviewed
+    requires { ⌜ n ≤ length (now begins) ⌝ }
+    ensures { λ r. ⌜ AreReviewed (now (words .entry)) (now (widths .entry)) n at (now (begins .exit)) r ⌝ }
+{
+    let mut fault = Fault::Nothing;
+    let mut i = 0;
+    let mut next = at;
+    while i < n {
+        begins[i] = next;
+        let t = read_plan(words, widths, next);
+        let end = t.end;
+        let Skipped::Next(p) = end else {
+            return t;
+        };
+        let own = t.fault;
+        fault = first_of(fault, own);
+        next = p;
+        i += 1;
+    }
+    Reviewed {
+        end: Skipped::Next(next),
+        fault: fault,
+    }
 }

@@ -142,4 +142,4 @@ module _ (ws : List ℕ) (at : ℕ) {t : Taken} (w : IsTaken ws at 1 t) where
         then-gives last ts (λ ts. record { places = zip (take (p / 256 % 256) begins) (take (p / 256 % 256) widths); transitions = ts }) b
         ∙ sym (transitions-left (zip (take (p / 256 % 256) begins) (take (p / 256 % 256) widths)) a d ∙ rw v)
 
-pub ruleset netting = (needs, next-fits, place-refused, place-ranges, placed-end, placed-goes, placed-stops, net-refused, few-places, few-transitions, net-stops)
+pub ruleset netting = (needs, next-fits, place-refused, place-ranges, placed-end, placed-goes, placed-stops)

@@ -13,8 +13,6 @@ use Rattle.expression.specs.declared.read.Skipped.{Skipped}
 use Rattle.expression.specs.declared.read.Skipped.the-variants.{Next, Refused}
 use Rattle.net.specs.declared.index.TransitionIndex.{TransitionIndex}
 use Rattle.net.specs.declared.index.PlaceIndex.{PlaceIndex}
-use Rattle.net.specs.declared.index.Places.{Places}
-use Rattle.net.specs.declared.index.Starts.{Starts}
 use Rattle.net.specs.declared.index.NetIndex.{NetIndex}
 use Rattle.net.specs.Skim.{fitsKind, Outline, NetOutline}
 
@@ -64,13 +62,6 @@ transitionRead r = upTo (r .end) (outlined r)
 
 abbrev pub placeRead : PlaceIndex → Reading ℕ
 placeRead r = upTo (r .end) (r .width)
-
--- where n places begin, and their widths
-abbrev pub placesRead : ℕ → Places → Reading (List (ℕ × ℕ))
-placesRead n r = upTo (r .end) (zip (take n (r .at)) (take n (r .widths)))
-
-abbrev pub startsRead : ℕ → Starts → Reading (List ℕ)
-startsRead n r = upTo (r .end) (take n (r .at))
 
 -- the positions that the index of a net has
 abbrev pub outlinedNet : NetIndex → NetOutline

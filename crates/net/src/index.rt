@@ -6,8 +6,10 @@ use crate::take::take;
 use expression::read::Skipped;
 ghost use mathlib.Core.Path.{_≡_};
 ghost use Prim.Native.Nat.{_≤_};
-ghost use Rattle.net.specs.Skim.{starts, skimPlace, skimPlaces, skimTransition, skimTransitions, skimNet};
-ghost use Rattle.net.specs.Index.{refusalOf, transitionRead, placeRead, placesRead, startsRead, netRead};
+ghost use mathlib.Core.List.{zip};
+ghost use lib.ListN.{length, take};
+ghost use Rattle.net.specs.Skim.{skimPlace, skimPlaces, skimTransition};
+ghost use Rattle.net.specs.Index.{refusalOf, upTo, transitionRead, placeRead};
 
 // A transition: where it ends or why it cannot be read, how many of each part it has, and where they begin. Its ranges begin right after
 // its word.
@@ -92,7 +94,7 @@ pub fn read_transition(words: &[u32], widths: &[usize], at: usize) -> Transition
 }
 
 // A refused word's refusal.
-fn refusal_of(t: Taken) -> Skipped
+pub fn refusal_of(t: Taken) -> Skipped
     ensures { λ r. ⌜ r ≡ refusalOf t ⌝ }
 {
     match t {
@@ -124,20 +126,18 @@ fn read_place(words: &[u32], at: usize) -> PlaceIndex
     }
 }
 
-// Up to 64 places: their end, where each begins, and their numbers of components.
-pub struct Places {
-    pub end: Skipped,
-    pub at: [usize; 64],
-    pub widths: [usize; 64],
-}
-
-// n places.
-fn read_places(words: &[u32], n: usize, at: usize) -> Places
-    requires { ⌜ n ≤ 64 ⌝ }
-    ensures { λ r. ⌜ placesRead n r ≡ skimPlaces n (now (words .entry)) at ⌝ }
+// n places; where each begins and its number of components are written to the front of the two tables.
+pub fn read_places(
+    words: &[u32],
+    begins: &mut [usize],
+    widths: &mut [usize],
+    n: usize,
+    at: usize,
+) -> Skipped
+    requires { ⌜ n ≤ length (now begins) ⌝ }
+    requires { ⌜ n ≤ length (now widths) ⌝ }
+    ensures { λ r. ⌜ upTo r (zip (take n (now (begins .exit))) (take n (now (widths .exit)))) ≡ skimPlaces n (now (words .entry)) at ⌝ }
 {
-    let mut begins = [0usize; 64];
-    let mut widths = [0usize; 64];
     let mut i = 0;
     let mut next = at;
     while i < n {
@@ -150,57 +150,12 @@ fn read_places(words: &[u32], n: usize, at: usize) -> Places
                 next = p;
             }
             Skipped::Refused(m, q) => {
-                return Places {
-                    end: Skipped::Refused(m, q),
-                    at: begins,
-                    widths: widths,
-                };
+                return Skipped::Refused(m, q);
             }
         }
         i += 1;
     }
-    Places {
-        end: Skipped::Next(next),
-        at: begins,
-        widths: widths,
-    }
-}
-
-// Up to 64 structures: their end, and where each begins.
-pub struct Starts {
-    pub end: Skipped,
-    pub at: [usize; 64],
-}
-
-// n transitions.
-fn read_transitions(words: &[u32], widths: &[usize], n: usize, at: usize) -> Starts
-    requires { ⌜ n ≤ 64 ⌝ }
-    ensures { λ r. ⌜ startsRead n r ≡ starts n (skimTransitions (now (words .entry)) (now (widths .entry))) at ⌝ }
-{
-    let mut begins = [0usize; 64];
-    let mut i = 0;
-    let mut next = at;
-    while i < n {
-        begins[i] = next;
-        let t = read_transition(words, widths, next);
-        let end = t.end;
-        match end {
-            Skipped::Next(p) => {
-                next = p;
-            }
-            Skipped::Refused(m, q) => {
-                return Starts {
-                    end: Skipped::Refused(m, q),
-                    at: begins,
-                };
-            }
-        }
-        i += 1;
-    }
-    Starts {
-        end: Skipped::Next(next),
-        at: begins,
-    }
+    Skipped::Next(next)
 }
 
 // A net: where it ends or why it cannot be read, its places with their numbers of components, and its transitions.
@@ -211,50 +166,4 @@ pub struct NetIndex {
     pub places_at: [usize; 64],
     pub widths: [usize; 64],
     pub transitions_at: [usize; 64],
-}
-
-// The net at the front of words.
-pub fn read_net(words: &[u32]) -> NetIndex
-    ensures { λ r. ⌜ netRead r ≡ skimNet (now (words .entry)) 0 ⌝ }
-{
-    let none = [0usize; 64];
-    match take(words, 0, 1) {
-        Taken::Word(w) => {
-            let places = (w / 256 % 256) as usize;
-            let transitions = (w % 256) as usize;
-            let ps = read_places(words, places, 1);
-            let ps_end = ps.end;
-            let ps_at = ps.at;
-            let widths = ps.widths;
-            let Skipped::Next(from) = ps_end else {
-                return NetIndex {
-                    end: ps_end,
-                    places: 0,
-                    transitions: 0,
-                    places_at: none,
-                    widths: none,
-                    transitions_at: none,
-                };
-            };
-            let ts = read_transitions(words, &widths[..places], transitions, from);
-            let ts_end = ts.end;
-            let ts_at = ts.at;
-            NetIndex {
-                end: ts_end,
-                places: places,
-                transitions: transitions,
-                places_at: ps_at,
-                widths: widths,
-                transitions_at: ts_at,
-            }
-        }
-        Taken::Refused(n, p) => NetIndex {
-            end: Skipped::Refused(n, p),
-            places: 0,
-            transitions: 0,
-            places_at: none,
-            widths: none,
-            transitions_at: none,
-        },
-    }
 }

@@ -1,4 +1,4 @@
--- `accept::plan::transition_fault` meets its contract: the tables of the transition's index have eight elements, so the parts that are lent
+-- `accept::plan::read_plan` meets its contract: the tables of the transition's index have eight elements, so the parts that are lent
 -- are all that were read.
 use mathlib.Core.Path.{_≡_, sym, _∙_}
 use Prim.Native.Nat.{ℕ, min, _≤_}
@@ -6,9 +6,9 @@ use lib.ListN.{length, length-map}
 use lib.Seq.{length-take-le}
 use native.Mathlib.Omega.{arith}
 use borrow.Author.Needs.{needs}
-use Rattle.accept.proofs.Faults.{unread-fault, few-variables, fault-of}
-use Rattle.accept.proofs.plan.transition_fault.Statement.{statement}
-use Rattle.accept.proofs.plan.transition_fault.Tie as tie
+use Rattle.accept.proofs.Faults.{unread-plan, few-variables, plan-read}
+use Rattle.accept.proofs.plan.read_plan.Statement.{statement}
+use Rattle.accept.proofs.plan.read_plan.Tie as tie
 
 inputs-full : (c : tie.After-read-transition) → length (c .read-transition .result .«inputs_at») ≡ 8
 inputs-full c = sym (length-map (c .read-transition .result .«inputs_at») _) ∙ c .read-transition .ok .1 .1 .1 .1 .1 .1 .1 .1 .0 .1 .0 .1
@@ -23,7 +23,7 @@ within : {l k : ℕ} (n : ℕ) → l ≡ 8 → k ≡ min n 8 → k ≤ l
 within n e d = omega arith
 
 returns : tie.Need-returns
-returns c = let rt = c .before .before .read-transition in unread-fault _ _ _ (rt .result) (rt .ensures) (c .enum-told2 .given .1)
+returns c = let rt = c .before .before .read-transition in unread-plan _ _ _ (rt .result) (rt .ensures) (c .enum-told2 .given .1)
 
 array-share-prefix-ins : tie.Need-array-share-prefix-ins
 array-share-prefix-ins c = let am = c .before .before .before .before .before in within _ (inputs-full (am .before .before .before)) (am .at-most .ensures)
@@ -54,10 +54,10 @@ returns-2 c =
     let am = c .before .before .before .before .before .before .before in
     let et = am .before .before .before in
     let rt = et .before .before in
-    fault-of _ _ _ (rt .read-transition .result) (rt .read-transition .ensures) (et .enum-told .given .1) _ _ _ (inputs-full rt) (conjuncts-full rt) (elements-full rt) (am .before .before .at-most .ensures) (am .before .at-most2 .ensures) (am .at-most3 .ensures) (c .plan-fault .ensures)
+    plan-read _ _ _ (rt .read-transition .result) (rt .read-transition .ensures) (et .enum-told .given .1) (c .plan-fault .result) _ _ _ (inputs-full rt) (conjuncts-full rt) (elements-full rt) (am .before .before .at-most .ensures) (am .before .at-most2 .ensures) (am .at-most3 .ensures) (c .plan-fault .ensures)
 
-pub transition-fault-spec : {M : Type 1} → statement M
-transition-fault-spec =
+pub read-plan-spec : {M : Type 1} → statement M
+read-plan-spec =
     tie.close
     (tie.spec
     (λ c κs. search needs)
