@@ -35,9 +35,9 @@ use Rattle.accept.specs.declared.element.Sort.the-variants.{Match, Solve
 use Rattle.accept.specs.declared.plan.Fault.{Fault}
 use Rattle.accept.specs.declared.plan.Fault.the-variants.{Nothing}
 use Rattle.accept.specs.declared.plan.Reviewed.{Reviewed}
-use Rattle.accept.specs.Fitness.{matchAt, solveAt, bindsAt, planParts, elementOr, faultFrom, faultIn, transitionFault, firstFault, faultAmong}
+use Rattle.accept.specs.Fitness.{unboundOf, matchAt, solveAt, bindsAt, planParts, elementOr, faultFrom, faultIn, transitionFault, firstFault, faultAmong}
 use Rattle.accept.specs.Plan.{sorted, marked, nonEmpty, fresh, IsBound, fault, IsReviewed, AreReviewed}
-use Rattle.accept.proofs.Binding.{bound-none, bound-new}
+use Rattle.accept.proofs.Binding.{bound-none}
 use Rattle.accept.proofs.Checking.{take-least}
 
 -- ── Variables that are not bound ──
@@ -111,17 +111,9 @@ module _ (ws widths : List ℕ) (v : ℕ) (inputs guard : List ℕ) (marks : Lis
   unfolding bindsAt
   solve-there {k} e h x = rw (e, elem-at guard k h) x
 
-  pub range-past : {n : ℕ} → s ≡ Range n → v ≤ n → IsBound (fresh marks) (bindsAt ws widths (planParts v inputs guard) (marked marks) (sorted s)) (fresh marks)
+  pub range-there : {n : ℕ} {r : Bound} → s ≡ Range n → IsBound (fresh marks) (unboundOf v (marked marks) n) r → IsBound (fresh marks) (bindsAt ws widths (planParts v inputs guard) (marked marks) (sorted s)) r
   unfolding bindsAt
-  range-past {n} e h = rw (e, le-ltb n v h) (bound-none (fresh marks))
-
-  pub range-bound : {n : ℕ} → s ≡ Range n → n < v → marked marks n ≡ true → IsBound (fresh marks) (bindsAt ws widths (planParts v inputs guard) (marked marks) (sorted s)) (fresh marks)
-  unfolding bindsAt
-  range-bound {n} e h m = rw (e, lt-ltb n v h, m) (bound-none (fresh marks))
-
-  pub range-new : {n : ℕ} → s ≡ Range n → v ≤ 8 → n < v → length marks ≡ 8 → marked marks n ≡ false → IsBound (fresh marks) (bindsAt ws widths (planParts v inputs guard) (marked marks) (sorted s)) (record { some = true; marks = set marks n true })
-  unfolding bindsAt
-  range-new {n} e h i l m = rw (e, lt-ltb n v i, m) (bound-new (fresh marks) n (omega arith))
+  range-there e x = rw e x
 
 -- ── Elements, one after the other ──
 
@@ -266,4 +258,4 @@ module _ {ws widths : List ℕ} {n at i next : ℕ} {begins : List ℕ} {f : Fau
     pub reviewing-stops : {m q : ℕ} (begins′ : List ℕ) → t .end ≡ Refused m q → AreReviewed ws widths n at begins′ t
     reviewing-stops begins′ d = record { same = rw d (collected-stops (a .collected) h (x .ends) d); faults = λ k e. let z : Refused _ _ ≡ Next k = sym d ∙ e in false-true (cc) }
 
-pub ruleset faults = (needs, bounded-turn, bounded-stop, bounded-end, match-past, match-there, solve-past, solve-there, range-past, range-bound, range-new, plan-unread, plan-unfit, plan-turn, plan-end, reviewing-end, reviewing-goes, reviewing-stops)
+pub ruleset faults = (needs, bounded-turn, bounded-stop, bounded-end, match-past, match-there, solve-past, solve-there, range-there, plan-unread, plan-unfit, plan-turn, plan-end, reviewing-end, reviewing-goes, reviewing-stops)

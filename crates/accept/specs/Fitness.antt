@@ -21,9 +21,13 @@ abbrev pub after : {A : Type 0} → Reading A → (A → ℕ → List ℕ) → L
 after (read a next) k = k a next
 after (refused n p) k = []
 
+-- a variable of v, if it is unbound
+abbrev pub unboundOf : ℕ → (ℕ → Bool) → ℕ → List ℕ
+unboundOf v isBound n = cond (ltb n v && not (isBound n)) (n ∷ []) []
+
 -- an unbound variable of v that stands alone at a position
 abbrev pub loneAt : List ℕ → ℕ → (ℕ → Bool) → ℕ → List ℕ
-loneAt ws v isBound at = after (word ws 8 (fitsKind 8) at) (λ n next. cond (ltb n v && not (isBound n)) (n ∷ []) [])
+loneAt ws v isBound at = after (word ws 8 (fitsKind 8) at) (λ n next. unboundOf v isBound n)
 
 -- those of so many expressions, one after the other
 unfoldable pub loneFrom : List ℕ → ℕ → (ℕ → Bool) → ℕ → ℕ → List ℕ
@@ -64,7 +68,7 @@ atMember (some at) k = k at
 unfoldable pub bindsAt : List ℕ → List ℕ → Outline → (ℕ → Bool) → Sort → List ℕ
 bindsAt ws widths o isBound (match k) = atMember (getElem? (o .inputs) k) (matchAt ws widths (o .variables) isBound)
 bindsAt ws widths o isBound (solve k) = atMember (getElem? (o .guard) k) (solveAt ws (o .variables) isBound)
-bindsAt ws widths o isBound (range n) = cond (ltb n (o .variables) && not (isBound n)) (n ∷ []) []
+bindsAt ws widths o isBound (range n) = unboundOf (o .variables) isBound n
 
 abbrev pub elementOr : Reading Element → ℕ → (Sort → Option ℕ) → Option ℕ
 elementOr (read e next) p k = k (e .sort)

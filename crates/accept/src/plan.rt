@@ -1,6 +1,7 @@
 // Plans: the variables that an element binds, and where a plan is at fault.
 use crate::bind::Bound;
 use crate::bind::bind_match;
+use crate::bind::bind_variable;
 use crate::element::Element;
 use crate::element::Sort;
 use crate::element::element_of;
@@ -32,7 +33,7 @@ fn newly_bound(
     ensures { λ r. ⌜ IsBound (fresh marks) (bindsAt (now (words .entry)) (now (widths .entry)) (planParts variables (now (inputs .entry)) (now (conjuncts .entry))) (marked marks) (sorted (e .sort))) r ⌝ }
 {
     let sort = e.sort;
-    let mut b = Bound {
+    let b = Bound {
         some: false,
         marks: marks,
     };
@@ -49,17 +50,7 @@ fn newly_bound(
             }
             bind_solve(words, variables, b, conjuncts[k])
         }
-        Sort::Range(n) => {
-            if variables <= n {
-                return b;
-            }
-            if b.marks[n] {
-                return b;
-            }
-            b.marks[n] = true;
-            b.some = true;
-            b
-        }
+        Sort::Range(n) => bind_variable(variables, b, n),
     }
 }
 

@@ -20,13 +20,13 @@ loop-holds c = (reviewing-start _ _ _ _ _, refl)
 same-length : tie.Need-same-length Inv-loop μ-loop
 same-length c =
     let lp = c .before .before .before .before .loop in
-    length-set (lp .begins) (lp .i) (lp .next) ∙ lp .inv .1
+    length-set (lp .begins) (lp .i) _ ∙ lp .inv .1
 
 loop-again : tie.Need-loop-again Inv-loop μ-loop
 loop-again c =
     let rp = c .before .before .before .before in
     let lp = rp .before .before .loop in
-    (reviewing-goes (lp .inv .0) (omega arith) (rp .read-plan .ensures) (omega arith) (c .before .before .end .given .1) (c .first-of .ensures), length-set (lp .begins) (lp .i) (lp .next) ∙ lp .inv .1)
+    (reviewing-goes (lp .inv .0) (omega arith) (rp .read-plan .ensures) (omega arith) (c .before .before .end .given .1) (c .first-of .ensures), length-set (lp .begins) (lp .i) _ ∙ lp .inv .1)
 
 same-length-2 : tie.Need-same-length-2 Inv-loop μ-loop
 same-length-2 c = c .before .loop .inv .1

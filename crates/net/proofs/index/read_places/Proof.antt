@@ -20,20 +20,20 @@ loop-holds c = (placed-start _ _ _ _ _, refl, refl)
 same-length : tie.Need-same-length Inv-loop μ-loop
 same-length c =
     let lp = c .before .before .before .before .before .loop in
-    length-set (lp .begins) (lp .i) (lp .next) ∙ lp .inv .1
+    length-set (lp .begins) (lp .i) _ ∙ lp .inv .1
 
 same-length-2 : tie.Need-same-length-2 Inv-loop μ-loop
 same-length-2 c =
     let lp = c .before .before .before .before .before .loop in
-    length-set (lp .widths) (lp .i) (c .before .before .before .read-place .result .width) ∙ lp .inv .2
+    length-set (lp .widths) (lp .i) _ ∙ lp .inv .2
 
 loop-again : tie.Need-loop-again Inv-loop μ-loop
 loop-again c =
     let lp = c .before .before .before .before .before .loop in
     let rp = c .before .before .before .read-place in (
       placed-goes (lp .inv .0) (omega arith) (rp .result .width) (rp .ensures) (omega arith) (omega arith) (c .before .end .given .1),
-      length-set (lp .begins) (lp .i) (lp .next) ∙ lp .inv .1,
-      length-set (lp .widths) (lp .i) (rp .result .width) ∙ lp .inv .2,
+      length-set (lp .begins) (lp .i) _ ∙ lp .inv .1,
+      length-set (lp .widths) (lp .i) _ ∙ lp .inv .2,
     )
 
 same-length-3 : tie.Need-same-length-3 Inv-loop μ-loop

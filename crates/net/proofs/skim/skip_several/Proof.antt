@@ -21,7 +21,7 @@ loop-holds c = (collected-start _ _ _ _, refl)
 same-length : tie.Need-same-length Inv-loop μ-loop
 same-length c =
     let lp = c .before .before .before .before .before .loop in
-    length-set (lp .begins) (lp .i) (lp .next) ∙ lp .inv .1
+    length-set (lp .begins) (lp .i) _ ∙ lp .inv .1
 
 returns : tie.Need-returns Inv-loop μ-loop
 returns c = search looping
@@ -29,7 +29,7 @@ returns c = search looping
 loop-again : tie.Need-loop-again Inv-loop μ-loop
 loop-again c =
     let lp = c .before .before .before .before .before .loop in
-    (collected-goes (lp .inv .0) (omega arith) (c .before .before .before .skip-one .ensures) (omega arith) (c .before .p .given .1), length-set (lp .begins) (lp .i) (lp .next) ∙ lp .inv .1)
+    (collected-goes (lp .inv .0) (omega arith) (c .before .before .before .skip-one .ensures) (omega arith) (c .before .p .given .1), length-set (lp .begins) (lp .i) _ ∙ lp .inv .1)
 
 same-length-2 : tie.Need-same-length-2 Inv-loop μ-loop
 same-length-2 c = c .before .loop .inv .1
