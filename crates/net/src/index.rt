@@ -63,22 +63,10 @@ pub fn read_transition(words: &[u32], widths: &[usize], at: usize) -> Transition
     let mut guard = [0usize; 8];
     let mut plan = [0usize; 8];
     let ranges_end = skip_ranges(words, variables, at + 1);
-    let Skipped::Next(next) = ranges_end else {
-        return ending(ranges_end);
-    };
-    let ins_end = skip_several(words, widths, variables, 5, &mut ins, inputs, next);
-    let Skipped::Next(next) = ins_end else {
-        return ending(ins_end);
-    };
-    let outs_end = skip_several(words, widths, variables, 5, &mut outs, outputs, next);
-    let Skipped::Next(next) = outs_end else {
-        return ending(outs_end);
-    };
-    let guard_end = skip_several(words, widths, variables, 6, &mut guard, conjuncts, next);
-    let Skipped::Next(next) = guard_end else {
-        return ending(guard_end);
-    };
-    let end = skip_several(words, widths, variables, 10, &mut plan, elements, next);
+    let ins_end = skip_several(words, widths, variables, 5, &mut ins, inputs, ranges_end);
+    let outs_end = skip_several(words, widths, variables, 5, &mut outs, outputs, ins_end);
+    let guard_end = skip_several(words, widths, variables, 6, &mut guard, conjuncts, outs_end);
+    let end = skip_several(words, widths, variables, 10, &mut plan, elements, guard_end);
     TransitionIndex {
         end: end,
         variables: variables,

@@ -6,6 +6,7 @@ use expression::read::skip_expression;
 ghost use mathlib.Core.Path.{_≡_};
 ghost use Prim.Native.Nat.{_≤_};
 ghost use lib.ListN.{length, take};
+ghost use Rattle.semantics.specs.Reading.{then};
 ghost use Rattle.expression.specs.Skip.{forget, skipped};
 ghost use Rattle.net.specs.Skim.{starts, skimRange, skimExpression, skimArc, skimConjunct, skimOne};
 ghost use Rattle.net.specs.Index.{upTo};
@@ -76,7 +77,7 @@ fn skip_one(words: &[u32], widths: &[usize], variables: usize, k: u32, at: usize
     }
 }
 
-// n structures of one kind; where each begins is written to the front of `begins`.
+// n structures of one kind from the end of what stands before them, or its refusal; where each begins is written to the front of `begins`.
 pub fn skip_several(
     words: &[u32],
     widths: &[usize],
@@ -84,11 +85,14 @@ pub fn skip_several(
     k: u32,
     begins: &mut [usize],
     n: usize,
-    at: usize,
+    from: Skipped,
 ) -> Skipped
     requires { ⌜ n ≤ length (now begins) ⌝ }
-    ensures { λ r. ⌜ upTo r (take n (now (begins .exit))) ≡ starts n (skimOne (now (words .entry)) (now (widths .entry)) variables k) at ⌝ }
+    ensures { λ r. ⌜ upTo r (take n (now (begins .exit))) ≡ then (skipped from) (λ u at. starts n (skimOne (now (words .entry)) (now (widths .entry)) variables k) at) ⌝ }
 {
+    let Skipped::Next(at) = from else {
+        return from;
+    };
     let mut i = 0;
     let mut next = at;
     while i < n {

@@ -15,6 +15,9 @@ Inv-loop words widths variables k begins₀ n at i₀ next₀ begins i next = Co
 abbrev μ-loop : tie.MeasureT-loop
 μ-loop words widths variables k begins₀ n at i₀ next₀ begins i next = n - i
 
+returns : tie.Need-returns Inv-loop μ-loop
+returns c = rw (c .enum-told .given .1)
+
 loop-holds : tie.Need-loop-holds Inv-loop μ-loop
 loop-holds c = (collected-start _ _ _ _, refl)
 
@@ -23,8 +26,8 @@ same-length c =
     let lp = c .before .before .before .before .before .loop in
     length-set (lp .begins) (lp .i) _ ∙ lp .inv .1
 
-returns : tie.Need-returns Inv-loop μ-loop
-returns c = search looping
+returns-2 : tie.Need-returns-2 Inv-loop μ-loop
+returns-2 c = rw (c .before .before .before .before .before .before .before .from .given .1) (search looping)
 
 loop-again : tie.Need-loop-again Inv-loop μ-loop
 loop-again c =
@@ -34,8 +37,8 @@ loop-again c =
 same-length-2 : tie.Need-same-length-2 Inv-loop μ-loop
 same-length-2 c = c .before .loop .inv .1
 
-returns-2 : tie.Need-returns-2 Inv-loop μ-loop
-returns-2 c = search looping
+returns-3 : tie.Need-returns-3 Inv-loop μ-loop
+returns-3 c = rw (c .before .before .before .from .given .1) (search looping)
 
 pub skip-several-spec : {M : Type 1} → statement M
 skip-several-spec =
@@ -43,6 +46,9 @@ skip-several-spec =
     (tie.spec
     Inv-loop
     μ-loop
+    (λ c. search needs)
+    (λ c. search needs)
+    returns
     loop-holds
     (λ c. omega arith)
     (λ c. omega arith)
@@ -50,9 +56,9 @@ skip-several-spec =
     (λ c. search needs)
     (λ c. search needs)
     same-length
-    returns
+    returns-2
     (λ c. omega arith)
     (λ c. omega arith)
     loop-again
     same-length-2
-    returns-2)
+    returns-3)
