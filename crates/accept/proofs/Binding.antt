@@ -3,8 +3,8 @@
 -- marked, is what was to be bound at first.
 use mathlib.Core.Path.{_≡_, refl, sym, ap, _∙_, subst}
 use mathlib.Core.Logic.{_⊎_, inl, inr}
-use Prim.Native.Nat.{ℕ, zero, suc, _+_, _-_, _≤_, _<_}
-use mathlib.Core.Bool.{Bool, true, false, cond, not, _&&_, _||_}
+use Prim.Native.Nat.{ℕ, suc, _+_, _-_, _≤_, _<_}
+use mathlib.Core.Bool.{Bool, true, false, cond, not, _||_}
 use mathlib.Core.List.{List, [], _∷_, _++_}
 use native.Mathlib.Omega.{arith}
 use borrow.Author.Needs.{needs}
@@ -18,11 +18,11 @@ use Rattle.semantics.specs.Refusal.{mostWords}
 use Rattle.semantics.specs.Word.{between}
 use Rattle.semantics.specs.Reading.{Reading, read, refused, word}
 use Rattle.semantics.specs.Plan.{member}
-use Rattle.semantics.proofs.Tests.{false-true, either, not-both, or-cases, or-left, or-right}
+use Rattle.semantics.proofs.Tests.{either, not-both, or-cases, or-left, or-right}
 use Rattle.semantics.proofs.Partial.{member-append}
 use Rattle.expression.specs.declared.read.Skipped.{Skipped}
 use Rattle.expression.specs.declared.read.Skipped.the-variants.{Next, Refused}
-use Rattle.expression.specs.Skip.{forget, skipped}
+use Rattle.expression.specs.Skip.{skipped}
 use Rattle.net.specs.declared.take.Taken.{Taken}
 use Rattle.net.specs.declared.take.Taken.the-variants.{Word, Refused as TakeRefused}
 use Rattle.net.specs.Skim.{fitsKind, skimExpression}

@@ -1,11 +1,11 @@
 -- Refusal 5 on the words of a net that was read: what an element binds, told from the positions of a transition's parts.
 -- proofs/Fitness.antt shows that it is what semantics says of the transition there. Rests on net/specs/Skim.
 use Prim.Native.Nat.{ℕ, zero, suc, _+_}
-use mathlib.Core.Bool.{Bool, true, false, cond, not, _&&_, _||_}
+use mathlib.Core.Bool.{Bool, false, cond, not, _&&_, _||_}
 use mathlib.Core.List.{List, [], _∷_, _++_}
 use mathlib.Core.Option.{Option, none, some}
 use lib.Dec.{ltb, eqb}
-use lib.ListN.{length, getD, getElem?}
+use lib.ListN.{getD, getElem?}
 use lib.Seq.{slice}
 use Rattle.semantics.specs.Lists.{every}
 use Rattle.semantics.specs.Word.{between}
