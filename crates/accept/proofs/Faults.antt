@@ -1,34 +1,30 @@
 -- The rules of faults: where a plan is at fault, from what its elements bind. Each rule is one arm of the code; in the loops what is still
 -- ahead is what was ahead at first.
 use mathlib.Core.Path.{_≡_, refl, sym, ap, _∙_, fun-ext}
-use Prim.Native.Nat.{ℕ, zero, suc, _+_, _-_, _≤_, _<_, min}
+use Prim.Native.Nat.{ℕ, zero, suc, _+_, _-_, _≤_, _<_}
 use mathlib.Core.Bool.{Bool, true, false, cond, _||_}
 use mathlib.Core.List.{List, [], _∷_, _++_}
 use mathlib.Core.Option.{Option, none, some}
 use native.Mathlib.Numerals.{add-one}
 use native.Mathlib.Omega.{arith}
 use borrow.Author.Needs.{needs}
-use borrow.Author.Tests.{leb-true}
-use lib.Dec.{leb}
 use lib.ListN.{length, getD, getElem?, drop, take, set, replicate, drop-of-length-le}
 use lib.Seq.{drop-cons}
 use Rattle.semantics.specs.Plan.{member, everyBelow, fitOr}
 use Rattle.semantics.specs.Net as net
-use Rattle.semantics.specs.Reading.{read, refused, word}
+use Rattle.semantics.specs.Reading.{read, refused}
 use Rattle.semantics.specs.ReadNet.{readElement, sortOf}
 use Rattle.semantics.proofs.Tests.{false-true}
-use Rattle.semantics.proofs.Readers.{Gives, gives, given, then-gives, as-read, word-reads, weaken}
 use Rattle.expression.specs.declared.read.Skipped.{Skipped}
 use Rattle.expression.specs.declared.read.Skipped.the-variants.{Next, Refused}
-use Rattle.expression.specs.Skip.{forget}
-use Rattle.net.specs.Skim.{fitsKind, starts, skimOne, Outline, skimTransition, skimTransitions}
-use Rattle.semantics.specs.Word.{bits, only}
+use Rattle.net.specs.Skim.{fitsKind, Outline, skimTransition, skimTransitions}
+use Rattle.semantics.specs.Word.{bits}
 use Rattle.net.proofs.Loops.{Collected, collected-start, collected-goes, collected-stops, collected-end, take-set}
-use Rattle.net.proofs.Transitions.{five-of, skips}
+use Rattle.net.proofs.Transitions.{skips}
 use Rattle.net.specs.declared.take.Taken.{Taken}
 use Rattle.net.specs.declared.take.Taken.the-variants.{Word, Refused as TakeRefused}
-use Rattle.net.specs.declared.index.TransitionIndex.{TransitionIndex}
-use Rattle.net.specs.Index.{taken, IsTaken, upTo, outlined, transitionRead}
+use Rattle.net.specs.declared.index.Parts.{Parts}
+use Rattle.net.specs.Index.{taken, IsTaken, upTo, AreParts}
 use Rattle.accept.specs.declared.bind.Bound.{Bound}
 use Rattle.accept.specs.declared.element.Sort.{Sort}
 use Rattle.accept.specs.declared.element.Sort.the-variants.{Match, Solve, Range}
@@ -38,7 +34,6 @@ use Rattle.accept.specs.declared.plan.Reviewed.{Reviewed}
 use Rattle.accept.specs.Fitness.{unboundOf, matchAt, solveAt, bindsAt, planParts, elementOr, faultFrom, faultIn, transitionFault, firstFault, faultAmong}
 use Rattle.accept.specs.Plan.{sorted, marked, nonEmpty, fresh, IsBound, fault, IsReviewed, AreReviewed}
 use Rattle.accept.proofs.Binding.{bound-none}
-use Rattle.accept.proofs.Checking.{take-least}
 
 -- ── Variables that are not bound ──
 
@@ -162,18 +157,6 @@ module _ (ws widths : List ℕ) (o : Outline) (ps : List ℕ) (at : ℕ) {marks 
 
 -- ── The plan of a transition ──
 
--- a transition that was read has at most eight variables
-outline-few : (ws widths : List ℕ) (at : ℕ) → Gives (λ (o : Outline) (next : ℕ). o .variables ≤ 8) (skimTransition ws widths at)
-unfolding skimTransition fitsKind
-outline-few ws widths at =
-    then-gives (given-fits ws at) (λ w n h. then-gives (as-read (forget (starts (bits 0 3 w) (skimOne ws widths (bits 0 3 w) 3) n))) (λ u n i. then-gives (as-read (starts (bits 4 7 w) (skimOne ws widths (bits 0 3 w) 5) n)) (λ is n i. then-gives (as-read (starts (bits 8 11 w) (skimOne ws widths (bits 0 3 w) 5) n)) (λ os n i. then-gives (as-read (starts (bits 12 15 w) (skimOne ws widths (bits 0 3 w) 6) n)) (λ gs n i. then-gives (as-read (starts (bits 16 19 w) (skimOne ws widths (bits 0 3 w) 0xA) n)) (λ es n i. gives h))))))
-  where
-    given-fits : (ws : List ℕ) (at : ℕ) → Gives (λ (w : ℕ) (next : ℕ). bits 0 3 w ≤ 8) (word ws 4 (fitsKind 4) at)
-    given-fits ws at = weaken (λ w next p. leb-true (bits 0 3 w) 8 (five-of (only 20 w) (leb (bits 0 3 w) 8) (leb (bits 4 7 w) 8) (leb (bits 8 11 w) 8) (leb (bits 12 15 w) 8) (leb (bits 16 19 w) 8) (p .0) .0)) (word-reads ws 4 (fitsKind 4) at)
-
-pub unread-plan : (ws widths : List ℕ) (at : ℕ) (t : TransitionIndex) {n p : ℕ} → transitionRead t ≡ skimTransition ws widths at → t .end ≡ Refused n p → IsReviewed ws widths at (record { end = t .end; fault = Nothing })
-unread-plan ws widths at t x e = record { ends = skips (t .end) (outlined t) x; faults = sym (ap (faultIn ws widths at) (sym x ∙ ap (λ (k : Skipped). upTo k (outlined t)) e)) }
-
 pub planned-start : (ws widths : List ℕ) (o : Outline) (ps : List ℕ) (at : ℕ) → Planned ws widths o ps at (replicate 8 false) 0
 planned-start ws widths o ps at = record { inside = omega arith; same = ap (λ (p : ℕ → Bool). faultFrom ws widths o at p ps) (fun-ext (λ k. unmarked 8 k)) }
   where
@@ -197,23 +180,22 @@ parts-fault ws widths o at isBound (p ∷ ps) =
     same (net.solve k) = refl
     same (net.range n) = refl
 
--- the index of a transition that was read, with as many parts as its tables have
-module _ (ws widths : List ℕ) (at : ℕ) (t : TransitionIndex) {next : ℕ} (x : transitionRead t ≡ skimTransition ws widths at) (e : t .end ≡ Next next) where
-  index-read : skimTransition ws widths at ≡ read (outlined t) next
-  index-read = sym x ∙ ap (λ (k : Skipped). upTo k (outlined t)) e
+-- a transition whose parts stand in tables
+module _ (ws widths : List ℕ) (at : ℕ) {ins outs guard plan : List ℕ} (t : Parts) (x : AreParts ws widths at ins outs guard plan t) where
+  outlined : Outline
+  outlined = record { variables = t .variables; inputs = take (t .inputs) ins; outputs = take (t .outputs) outs; guard = take (t .conjuncts) guard; plan = take (t .elements) plan }
 
-  pub few-variables : t .variables ≤ 8
-  few-variables = given (outline-few ws widths at) index-read
+  read-to : {end : Skipped} → t .end ≡ end → skimTransition ws widths at ≡ upTo end outlined
+  unfolding outlined
+  read-to e = sym (x .same) ∙ ap (λ (k : Skipped). upTo k outlined) e
 
-  pub plan-read : (f : Fault) (i g p : ℕ) → length (t .«inputs_at») ≡ 8 → length (t .«conjuncts_at») ≡ 8 → length (t .«elements_at») ≡ 8 → i ≡ min (t .inputs) 8 → g ≡ min (t .conjuncts) 8 → p ≡ min (t .elements) 8 → fault f ≡ faultFrom ws widths (planParts (t .variables) (take i (t .«inputs_at»)) (take g (t .«conjuncts_at»))) at (λ k. false) (take p (t .«elements_at»)) → IsReviewed ws widths at (record { end = t .end; fault = f })
-  plan-read f i g p il gl pl ie ge pe y =
-      record {
-        ends = skips (t .end) (outlined t) x;
-        faults =
-            y
-            ∙ rw (take-least (t .«inputs_at») (t .inputs) 8 i il ie, take-least (t .«conjuncts_at») (t .conjuncts) 8 g gl ge, take-least (t .«elements_at») (t .elements) 8 p pl pe) (parts-fault ws widths (outlined t) at (λ k. false) (outlined t .plan))
-            ∙ sym (ap (faultIn ws widths at) index-read);
-      }
+  pub unread-plan : {n p : ℕ} → t .end ≡ Refused n p → IsReviewed ws widths at (record { end = t .end; fault = Nothing })
+  unfolding outlined
+  unread-plan e = record { ends = skips (t .end) outlined (x .same); faults = sym (ap (faultIn ws widths at) (read-to e)) }
+
+  pub plan-read : {next : ℕ} (f : Fault) → t .end ≡ Next next → fault f ≡ faultFrom ws widths (planParts (t .variables) (take (t .inputs) ins) (take (t .conjuncts) guard)) at (λ k. false) (take (t .elements) plan) → IsReviewed ws widths at (record { end = t .end; fault = f })
+  unfolding outlined
+  plan-read f e y = record { ends = skips (t .end) outlined (x .same); faults = y ∙ parts-fault ws widths outlined at (λ k. false) (take (t .elements) plan) ∙ sym (ap (faultIn ws widths at) (read-to e)) }
 
 -- ── Transitions, one after the other ──
 

@@ -7,7 +7,7 @@ use crate::element::Sort;
 use crate::element::element_of;
 use crate::solve::bind_solve;
 use expression::read::Skipped;
-use net::index::read_transition;
+use net::index::read_parts;
 use net::take::Taken;
 use net::take::take;
 ghost use mathlib.Core.Path.{_≡_};
@@ -124,7 +124,19 @@ pub struct Reviewed {
 fn read_plan(words: &[u32], widths: &[usize], at: usize) -> Reviewed
     ensures { λ r. ⌜ IsReviewed (now (words .entry)) (now (widths .entry)) at r ⌝ }
 {
-    let t = read_transition(words, widths, at);
+    let mut ins = [0usize; 8];
+    let mut outs = [0usize; 8];
+    let mut guard = [0usize; 8];
+    let mut plan = [0usize; 8];
+    let t = read_parts(
+        words,
+        widths,
+        &mut ins,
+        &mut outs,
+        &mut guard,
+        &mut plan,
+        at,
+    );
     let end = t.end;
     let Skipped::Next(_) = end else {
         return Reviewed {
@@ -132,12 +144,9 @@ fn read_plan(words: &[u32], widths: &[usize], at: usize) -> Reviewed
             fault: Fault::Nothing,
         };
     };
-    let inputs = at_most(8, t.inputs);
-    let conjuncts = at_most(8, t.conjuncts);
-    let elements = at_most(8, t.elements);
-    let ins = t.inputs_at;
-    let guard = t.conjuncts_at;
-    let plan = t.elements_at;
+    let inputs = t.inputs;
+    let conjuncts = t.conjuncts;
+    let elements = t.elements;
     let ins = &ins[..inputs];
     let guard = &guard[..conjuncts];
     let plan = &plan[..elements];

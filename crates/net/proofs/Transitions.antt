@@ -16,8 +16,9 @@ use Rattle.expression.specs.declared.read.Skipped.the-variants.{Next, Refused}
 use Rattle.expression.specs.Skip.{forget, skipped}
 use Rattle.net.specs.declared.take.Taken.{Taken}
 use Rattle.net.specs.declared.take.Taken.the-variants.{Word, Refused as TakeRefused}
+use Rattle.net.specs.declared.index.Parts.{Parts}
 use Rattle.net.specs.Skim.{fitsKind, starts, skimRange, skimOne, Outline, skimTransition}
-use Rattle.net.specs.Index.{Takes, IsTaken, refusalOf, upTo}
+use Rattle.net.specs.Index.{Takes, IsTaken, refusalOf, upTo, noParts, AreParts}
 use Rattle.net.proofs.Structures.{word-refused, word-taken, next-fits}
 
 -- ── Several structures of a reading, by the answer of the code ──
@@ -80,17 +81,10 @@ module _ {ws : List ℕ} {at : ℕ} {t : Taken} (w : IsTaken ws at 4 t) {p : ℕ
   unfolding fitsKind
   numbers = five-of (only 20 p) (leb (p / 1 % 16) 8) (leb (p / 16 % 16) 8) (leb (p / 256 % 16) 8) (leb (p / 4096 % 16) 8) (leb (p / 65536 % 16) 8) (subst (Takes ws at 4) e (w .exists) .fits)
 
-  pub few-inputs : p / 16 % 16 ≤ 8
-  few-inputs = leb-true (p / 16 % 16) 8 (numbers .1)
-
-  pub few-outputs : p / 256 % 16 ≤ 8
-  few-outputs = leb-true (p / 256 % 16) 8 (numbers .2)
-
-  pub few-conjuncts : p / 4096 % 16 ≤ 8
-  few-conjuncts = leb-true (p / 4096 % 16) 8 (numbers .3)
-
-  pub few-elements : p / 65536 % 16 ≤ 8
-  few-elements = leb-true (p / 65536 % 16) 8 (numbers .4)
+  pub few-parts : (p % 16 ≤ 8) × (p / 16 % 16 ≤ 8) × (p / 256 % 16 ≤ 8) × (p / 4096 % 16 ≤ 8) × (p / 65536 % 16 ≤ 8)
+  few-parts =
+      let h : p / 1 % 16 ≤ 8 = leb-true (p / 1 % 16) 8 (numbers .0) in
+      (omega arith, leb-true (p / 16 % 16) 8 (numbers .1), leb-true (p / 256 % 16) 8 (numbers .2), leb-true (p / 4096 % 16) 8 (numbers .3), leb-true (p / 65536 % 16) 8 (numbers .4))
 
 -- ── Each return ──
 
@@ -99,9 +93,12 @@ pub upTo-refused : {A : Type 0} {x : Reading A} {end : Skipped} (a : A) {m q : �
 upTo-refused a e d = rw (e, d)
 
 module _ (ws widths : List ℕ) (at : ℕ) {t : Taken} (w : IsTaken ws at 4 t) where
-  pub transition-refused : {m s : ℕ} {f end : Skipped} (o : Outline) → t ≡ TakeRefused m s → f ≡ refusalOf t → end ≡ f → upTo end o ≡ skimTransition ws widths at
+  transition-refused : {m s : ℕ} {f end : Skipped} (o : Outline) → t ≡ TakeRefused m s → f ≡ refusalOf t → end ≡ f → upTo end o ≡ skimTransition ws widths at
   unfolding skimTransition
   transition-refused o e f d = upTo-refused o (rw (word-refused w e)) (d ∙ f ∙ ap refusalOf e)
+
+  pub parts-refused : (ins outs guard plan : List ℕ) {m s : ℕ} {f : Skipped} {r : Parts} → t ≡ TakeRefused m s → f ≡ refusalOf t → r ≡ noParts f → AreParts ws widths at ins outs guard plan r
+  parts-refused ins outs guard plan e f d = rw d (record { same = transition-refused _ e f refl; few-variables = omega arith; few-inputs = omega arith; few-conjuncts = omega arith; few-elements = omega arith })
 
   module _ {p : ℕ} (e : t ≡ Word p) where
     ranges-left : skimTransition ws widths at ≡ rangesLeft ws widths p (at + 1)
@@ -124,4 +121,4 @@ module _ (ws widths : List ℕ) (at : ℕ) {t : Taken} (w : IsTaken ws at 4 t) w
         by (Next n) = refl
         by (Refused m q) = refl
 
-pub ruleset transitions = (needs, next-fits, few-inputs, few-outputs, few-conjuncts, few-elements, transition-refused)
+pub ruleset transitions = (needs, next-fits, parts-refused)

@@ -9,7 +9,7 @@ ghost use Prim.Native.Nat.{_≤_};
 ghost use mathlib.Core.List.{zip};
 ghost use lib.ListN.{length, take};
 ghost use Rattle.net.specs.Skim.{skimPlace, skimPlaces, skimTransition};
-ghost use Rattle.net.specs.Index.{refusalOf, upTo, transitionRead, placeRead};
+ghost use Rattle.net.specs.Index.{refusalOf, upTo, noParts, AreParts, transitionRead, placeRead};
 
 // A transition: where it ends or why it cannot be read, how many of each part it has, and where they begin. Its ranges begin right after
 // its word.
@@ -45,35 +45,93 @@ pub fn ending(end: Skipped) -> TransitionIndex
     }
 }
 
-// The transition at a position; `widths` has the number of components of each place.
-pub fn read_transition(words: &[u32], widths: &[usize], at: usize) -> TransitionIndex
-    ensures { λ r. ⌜ transitionRead r ≡ skimTransition (now (words .entry)) (now (widths .entry)) at ⌝ }
+// A transition whose parts stand in tables: where it ends or why it cannot be read, and how many of each part it has.
+pub struct Parts {
+    pub end: Skipped,
+    pub variables: usize,
+    pub inputs: usize,
+    pub outputs: usize,
+    pub conjuncts: usize,
+    pub elements: usize,
+}
+
+// A transition that has no parts.
+fn no_parts(end: Skipped) -> Parts
+    ensures { λ r. ⌜ r ≡ noParts end ⌝ }
+{
+    Parts {
+        end: end,
+        variables: 0,
+        inputs: 0,
+        outputs: 0,
+        conjuncts: 0,
+        elements: 0,
+    }
+}
+
+// The transition at a position; `widths` has the number of components of each place. Where its parts begin is written to the front of four
+// tables.
+pub fn read_parts(
+    words: &[u32],
+    widths: &[usize],
+    ins: &mut [usize],
+    outs: &mut [usize],
+    guard: &mut [usize],
+    plan: &mut [usize],
+    at: usize,
+) -> Parts
+    requires { ⌜ (length (now ins) ≡ 8) × (length (now outs) ≡ 8) × (length (now guard) ≡ 8) × (length (now plan) ≡ 8) ⌝ }
+    ensures { λ r. ⌜ AreParts (now (words .entry)) (now (widths .entry)) at (now (ins .exit)) (now (outs .exit)) (now (guard .exit)) (now (plan .exit)) r ⌝ }
 {
     let head = take(words, at, 4);
     let Taken::Word(w) = head else {
-        return ending(refusal_of(head));
+        return no_parts(refusal_of(head));
     };
     let variables = (w % 16) as usize;
     let inputs = (w / 16 % 16) as usize;
     let outputs = (w / 256 % 16) as usize;
     let conjuncts = (w / 4096 % 16) as usize;
     let elements = (w / 65536 % 16) as usize;
-    let mut ins = [0usize; 8];
-    let mut outs = [0usize; 8];
-    let mut guard = [0usize; 8];
-    let mut plan = [0usize; 8];
     let ranges_end = skip_ranges(words, variables, at + 1);
-    let ins_end = skip_several(words, widths, variables, 5, &mut ins, inputs, ranges_end);
-    let outs_end = skip_several(words, widths, variables, 5, &mut outs, outputs, ins_end);
-    let guard_end = skip_several(words, widths, variables, 6, &mut guard, conjuncts, outs_end);
-    let end = skip_several(words, widths, variables, 10, &mut plan, elements, guard_end);
-    TransitionIndex {
+    let ins_end = skip_several(words, widths, variables, 5, ins, inputs, ranges_end);
+    let outs_end = skip_several(words, widths, variables, 5, outs, outputs, ins_end);
+    let guard_end = skip_several(words, widths, variables, 6, guard, conjuncts, outs_end);
+    let end = skip_several(words, widths, variables, 10, plan, elements, guard_end);
+    Parts {
         end: end,
         variables: variables,
         inputs: inputs,
         outputs: outputs,
         conjuncts: conjuncts,
         elements: elements,
+    }
+}
+
+// The transition at a position; `widths` has the number of components of each place.
+pub fn read_transition(words: &[u32], widths: &[usize], at: usize) -> TransitionIndex
+    ensures { λ r. ⌜ transitionRead r ≡ skimTransition (now (words .entry)) (now (widths .entry)) at ⌝ }
+{
+    let mut ins = [0usize; 8];
+    let mut outs = [0usize; 8];
+    let mut guard = [0usize; 8];
+    let mut plan = [0usize; 8];
+    let t = read_parts(
+        words,
+        widths,
+        &mut ins,
+        &mut outs,
+        &mut guard,
+        &mut plan,
+        at,
+    );
+    let end = t.end;
+    TransitionIndex {
+        end: end,
+        variables: t.variables,
+        inputs: t.inputs,
+        outputs: t.outputs,
+        conjuncts: t.conjuncts,
+        elements: t.elements,
         inputs_at: ins,
         outputs_at: outs,
         conjuncts_at: guard,
