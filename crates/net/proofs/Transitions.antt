@@ -68,7 +68,7 @@ module _ (ws widths : List ℕ) (w : ℕ) where
 
 -- ── The word ──
 
-pub five-of : (a b c d e f : Bool) → (a && b && c && d && e && f) ≡ true → (b ≡ true) × (c ≡ true) × (d ≡ true) × (e ≡ true) × (f ≡ true)
+five-of : (a b c d e f : Bool) → (a && b && c && d && e && f) ≡ true → (b ≡ true) × (c ≡ true) × (d ≡ true) × (e ≡ true) × (f ≡ true)
 five-of false b c d e f h = false-true h
 five-of true false c d e f h = false-true h
 five-of true true false d e f h = false-true h

@@ -1,4 +1,4 @@
-// Where the structures of a net begin, by value, for the calls that work on the net afterwards.
+// Where the structures of a net begin, in lent tables, and by value for the calls that work on the net afterwards.
 use crate::skim::skip_ranges;
 use crate::skim::skip_several;
 use crate::take::Taken;
