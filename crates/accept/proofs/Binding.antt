@@ -3,8 +3,8 @@
 -- marked, is what was to be bound at first.
 use mathlib.Core.Path.{_≡_, refl, sym, ap, _∙_, subst}
 use mathlib.Core.Logic.{_⊎_, inl, inr}
-use Prim.Native.Nat.{ℕ, zero, suc, _+_, _-_, _≤_, _<_}
-use mathlib.Core.Bool.{Bool, true, false, cond, not, _&&_, _||_}
+use Prim.Native.Nat.{ℕ, suc, _+_, _-_, _≤_, _<_}
+use mathlib.Core.Bool.{Bool, true, false, cond, not, _||_}
 use mathlib.Core.List.{List, [], _∷_, _++_}
 use native.Mathlib.Omega.{arith}
 use borrow.Author.Needs.{needs}
@@ -18,18 +18,18 @@ use Rattle.semantics.specs.Refusal.{mostWords}
 use Rattle.semantics.specs.Word.{between}
 use Rattle.semantics.specs.Reading.{Reading, read, refused, word}
 use Rattle.semantics.specs.Plan.{member}
-use Rattle.semantics.proofs.Tests.{false-true, either, not-both, or-cases, or-left, or-right}
+use Rattle.semantics.proofs.Tests.{either, not-both, or-cases, or-left, or-right}
 use Rattle.semantics.proofs.Partial.{member-append}
 use Rattle.expression.specs.declared.read.Skipped.{Skipped}
 use Rattle.expression.specs.declared.read.Skipped.the-variants.{Next, Refused}
-use Rattle.expression.specs.Skip.{forget, skipped}
+use Rattle.expression.specs.Skip.{skipped}
 use Rattle.net.specs.declared.take.Taken.{Taken}
 use Rattle.net.specs.declared.take.Taken.the-variants.{Word, Refused as TakeRefused}
 use Rattle.net.specs.Skim.{fitsKind, skimExpression}
 use Rattle.net.proofs.Structures.{next-fits}
 use Rattle.net.specs.Index.{taken, Takes, IsTaken}
 use Rattle.accept.specs.declared.bind.Bound.{Bound}
-use Rattle.accept.specs.Fitness.{after, loneAt, loneFrom, matchAt}
+use Rattle.accept.specs.Fitness.{after, unboundOf, loneAt, loneFrom, matchAt}
 use Rattle.accept.specs.Plan.{marked, nonEmpty, IsBound}
 
 -- ── A lone variable ──
@@ -46,6 +46,16 @@ bound-new b n l = record { some = refl; marks = λ k. by k (either (eqb n k)) }
     by k (inl q) = rw (q, ← eqb-true n k q) (getD-set-same (b .marks) n true false l)
     by k (inr q) = rw q (getD-set-other (b .marks) n k true false (λ r. eqb-false n k q (sym r)))
 
+module _ (v : ℕ) (b : Bound) {n : ℕ} where
+  pub variable-beyond : v ≤ n → IsBound b (unboundOf v (marked (b .marks)) n) b
+  variable-beyond h = rw (le-ltb n v h) (bound-none b)
+
+  pub variable-bound : n < v → marked (b .marks) n ≡ true → IsBound b (unboundOf v (marked (b .marks)) n) b
+  variable-bound h m = rw (lt-ltb n v h, m) (bound-none b)
+
+  pub variable-new : n < v → v ≤ 8 → length (b .marks) ≡ 8 → marked (b .marks) n ≡ false → IsBound b (unboundOf v (marked (b .marks)) n) (record { some = true; marks = set (b .marks) n true })
+  variable-new h i l m = rw (lt-ltb n v h, m) (bound-new b n (omega arith))
+
 module _ (ws : List ℕ) (v at : ℕ) (b : Bound) {t : Taken} (w : IsTaken ws at 8 t) where
   word-is : {u : Taken} → t ≡ u → word ws 8 (fitsKind 8) at ≡ taken at u
   word-is e = sym (w .same) ∙ ap (taken at) e
@@ -53,14 +63,8 @@ module _ (ws : List ℕ) (v at : ℕ) (b : Bound) {t : Taken} (w : IsTaken ws at
   pub lone-refused : {m s : ℕ} → t ≡ TakeRefused m s → IsBound b (loneAt ws v (marked (b .marks)) at) b
   lone-refused e = rw (word-is e) (bound-none b)
 
-  pub lone-beyond : {n : ℕ} → t ≡ Word n → v ≤ n → IsBound b (loneAt ws v (marked (b .marks)) at) b
-  lone-beyond {n} e h = rw (word-is e, le-ltb n v h) (bound-none b)
-
-  pub lone-bound : {n : ℕ} → t ≡ Word n → n < v → marked (b .marks) n ≡ true → IsBound b (loneAt ws v (marked (b .marks)) at) b
-  lone-bound {n} e h m = rw (word-is e, lt-ltb n v h, m) (bound-none b)
-
-  pub lone-new : {n : ℕ} → t ≡ Word n → n < v → n < length (b .marks) → marked (b .marks) n ≡ false → IsBound b (loneAt ws v (marked (b .marks)) at) (record { some = true; marks = set (b .marks) n true })
-  lone-new {n} e h l m = rw (word-is e, lt-ltb n v h, m) (bound-new b n l)
+  pub lone-taken : {n : ℕ} {r : Bound} → t ≡ Word n → IsBound b (unboundOf v (marked (b .marks)) n) r → IsBound b (loneAt ws v (marked (b .marks)) at) r
+  lone-taken e x = rw (word-is e) x
 
 -- a position has no lone variable, or one, whatever is bound
 pub data Lone (ws : List ℕ) (v at : ℕ) : Type 0 where
@@ -252,4 +256,4 @@ module _ (ws widths : List ℕ) (v at : ℕ) (b : Bound) {t : Taken} (w : IsTake
         let f : at + 1 + 1 ≡ at + 2 = omega arith in
         rw (arc-is e, constant-is d, le-leb 1 z h, le-leb z 8191 i, f) y
 
-pub ruleset binding = (needs, lone-refused, lone-beyond, lone-bound, lone-new, binding-end, binding-turn, binding-stop, next-fits, later-fits, match-refused, match-nowhere, coefficient-refused, coefficient-low, coefficient-high, match-each)
+pub ruleset binding = (needs, variable-beyond, variable-bound, variable-new, lone-refused, lone-taken, binding-end, binding-turn, binding-stop, next-fits, later-fits, match-refused, match-nowhere, coefficient-refused, coefficient-low, coefficient-high, match-each)

@@ -1,21 +1,18 @@
 -- The rules of accepting a net, and of check and split: from the positions read and the first fault of the plans. The net that was read is the one whose positions
 -- the index has, so its plans are at fault just where the words say so.
 use mathlib.Core.Path.{_≡_, refl, sym, ap, _∙_, subst}
-use Prim.Native.Nat.{ℕ, zero, suc, min, _≤_, _<_, _-_}
+use Prim.Native.Nat.{ℕ, zero, suc, min, _≤_, _-_}
 use mathlib.Core.Bool.{Bool, true, false, cond}
-use mathlib.Core.List.{List, [], _∷_, map, zip}
-use mathlib.Core.Option.{Option, none, some}
+use mathlib.Core.List.{List, [], _∷_, map}
 use native.Mathlib.Omega.{arith}
-use borrow.Author.Needs.{needs}
-use borrow.Author.Tests.{lt-ltb, le-ltb}
+use borrow.Author.Tests.{le-ltb}
 use lib.Dec.{ltb}
 use lib.ListN.{length, take, drop, length-take, length-drop}
 use lib.Seq.{take-nil, take-all}
-use Rattle.semantics.specs.declared.Verdict.{Verdict}
 use Rattle.semantics.specs.declared.Verdict.the-variants.{Accepted, Refused as CheckRefused}
-use Rattle.semantics.specs.Refusal.{wordsLeft, unfitPlan}
+use Rattle.semantics.specs.Refusal.{wordsLeft}
 use Rattle.semantics.specs.Reading.{Reading, read, refused, then}
-use Rattle.semantics.specs.Net.{Place, Transition, Net}
+use Rattle.semantics.specs.Net.{Transition, Net}
 use Rattle.semantics.specs.ReadNet.{readNet}
 use Rattle.semantics.specs.Plan.{plansFault, withPlans, acceptFront, acceptNet}
 use Rattle.semantics.specs.Calls.{verdict, checkCall, splitBy, splitCall}
@@ -27,13 +24,16 @@ use Rattle.net.specs.declared.index.NetIndex.{NetIndex}
 use Rattle.net.specs.Skim.{changed, NetOutline, netOutline, width, skimNet}
 use Rattle.net.specs.Index.{upTo, outlinedNet, netRead}
 use Rattle.net.proofs.Skimming.{skim-net, widths-of}
-use Rattle.net.proofs.Nets.{seconds, taken-alike}
+use Rattle.net.proofs.Loops.{forget-changed}
+use Rattle.net.proofs.Transitions.{skips}
+use Rattle.net.proofs.Nets.{seconds}
 use Rattle.net.proofs.Located.{net-transitions}
 use Rattle.accept.specs.declared.plan.Fault.{Fault}
 use Rattle.accept.specs.declared.plan.Fault.the-variants.{At, Nothing}
 use Rattle.accept.specs.Fitness.{faultAmong}
 use Rattle.accept.specs.Plan.{fault}
-use Rattle.accept.specs.Front.{IsPlanned, InWords, IsFront, splitInto}
+use Rattle.accept.specs.Front.{acceptTo, unlessUnfit, settle, IsExtent, InWords, IsFront, splitInto}
+use Rattle.accept.specs.declared.accepted.Extent.{Extent}
 use Rattle.expression.specs.Skip.{forget, skipped}
 use Rattle.accept.proofs.Fitness.{net-fault}
 
@@ -55,16 +55,20 @@ record Found (ws : List ℕ) (i : NetIndex) (next : ℕ) : Type 0 where
   widths-are : map width (net .places) ≡ take (i .places) (i .widths)
   begins-are : map (λ (t : Transition). t .position) (net .transitions) ≡ take (i .transitions) (i .«transitions_at»)
 
+unread-net : (ws : List ℕ) {n p : ℕ} → skimNet ws 0 ≡ refused n p → readNet ws 0 ≡ refused n p
+unread-net ws {n} {p} e = by (readNet ws 0) (skim-net ws 0 ∙ e)
+  where
+    by : (r : Reading Net) → changed netOutline r ≡ refused n p → r ≡ refused n p
+    by (read net next) h = false-true (cc)
+    by (refused m q) h = let a : m ≡ n = cc in let b : q ≡ p = cc in ap (λ (k : ℕ). refused k q) a ∙ ap (refused n) b
+
+refused-net : (ws : List ℕ) {n p : ℕ} → skimNet ws 0 ≡ refused n p → (least : ℕ) → refused n p ≡ changed netOutline (acceptTo ws least)
+unfolding acceptTo
+refused-net ws e least = rw (unread-net ws e)
+
 module _ (ws : List ℕ) (i : NetIndex) (x : netRead i ≡ skimNet ws 0) where
   as-read : changed netOutline (readNet ws 0) ≡ netRead i
   as-read = skim-net ws 0 ∙ sym x
-
-  refused-read : {n p : ℕ} → i .end ≡ Refused n p → readNet ws 0 ≡ refused n p
-  refused-read {n} {p} e = by (readNet ws 0) (as-read ∙ ap (λ (k : Skipped). upTo k (outlinedNet i)) e)
-    where
-      by : (r : Reading Net) → changed netOutline r ≡ refused n p → r ≡ refused n p
-      by (read net next) h = false-true (cc)
-      by (refused m q) h = let a : m ≡ n = cc in let b : q ≡ p = cc in ap (λ (k : ℕ). refused k q) a ∙ ap (refused n) b
 
   module _ (full : length (i .«places_at») ≡ 64) (wide : length (i .widths) ≡ 64) where
     found : {next : ℕ} → i .end ≡ Next next → Found ws i next
@@ -88,56 +92,45 @@ module _ (ws : List ℕ) (i : NetIndex) (x : netRead i ≡ skimNet ws 0) where
         rw (← f .widths-are, ← f .begins-are)
         (net-fault ws (f .net .places) (f .net .transitions) (net-transitions ws 0 (f .net) next (f .reads)) (read-sound ws 0 (f .net) next (f .reads) .transitions))
 
-    module _ {next : ℕ} (e : i .end ≡ Next next) (long : length (i .«transitions_at») ≡ 64) (p q : ℕ) (few : p ≡ min (i .places) 64) (less : q ≡ min (i .transitions) 64) (r : Fault) (x′ : fault r ≡ faultAmong ws (take p (i .widths)) (take q (i .«transitions_at»))) (net : Net) (n : readNet ws 0 ≡ read net next) where
-      told : fault r ≡ plansFault (net .transitions)
-      told =
-          let f = found e in
-          let same : f .net ≡ net = let s : read (f .net) next ≡ read net next = sym (f .reads) ∙ n in cc in
-          x′
-          ∙ ap (λ (l : List ℕ). faultAmong ws l (take q (i .«transitions_at»))) (take-least (i .widths) (i .places) 64 p wide few)
-          ∙ ap (faultAmong ws (take (i .places) (i .widths))) (take-least (i .«transitions_at») (i .transitions) 64 q long less)
-          ∙ net-fault-of f
-          ∙ ap (λ (m : Net). plansFault (m .transitions)) same
+    -- a net that was read, with the first fault of its plans
+    settled-read : {next : ℕ} (f : Found ws i next) (r : Fault) → fault r ≡ plansFault (f .net .transitions) → i .end ≡ Next next → upTo (unlessUnfit r next) (outlinedNet i) ≡ changed netOutline (withPlans (plansFault (f .net .transitions)) (f .net) next)
+    settled-read f (At q) h e = rw (← h)
+    settled-read {next} f Nothing h e = rw (← h) (sym (ap (λ (k : Skipped). upTo k (outlinedNet i)) e) ∙ sym as-read ∙ ap (changed netOutline) (f .reads))
 
-      planned-fault : {q : ℕ} (s : NetIndex) → r ≡ At q → s .end ≡ Refused unfitPlan q → netRead s ≡ changed netOutline (withPlans (plansFault (net .transitions)) net next)
-      planned-fault s d g = let t : plansFault (net .transitions) ≡ some _ = sym told ∙ ap fault d in rw (t, g)
+    settled-next : {next : ℕ} (r : Fault) → i .end ≡ Next next → fault r ≡ faultAmong ws (take (i .places) (i .widths)) (take (i .transitions) (i .«transitions_at»)) → (least : ℕ) → upTo (settle least (Next next) r) (outlinedNet i) ≡ changed netOutline (acceptTo ws least)
+    unfolding acceptTo
+    settled-next {next} r e y least = let f = found e in rw (f .reads) (by f (ltb next least))
+      where
+        by : (f : Found ws i next) (t : Bool) → upTo (cond t (Refused wordsLeft next) (unlessUnfit r next)) (outlinedNet i) ≡ changed netOutline (cond t (refused wordsLeft next) (withPlans (plansFault (f .net .transitions)) (f .net) next))
+        by f true = refl
+        by f false = settled-read f r (y ∙ net-fault-of f) e
 
-      planned-fit : r ≡ Nothing → netRead i ≡ changed netOutline (withPlans (plansFault (net .transitions)) net next)
-      planned-fit d =
-          let t : plansFault (net .transitions) ≡ none = sym told ∙ ap fault d in
-          rw t (sym as-read ∙ ap (changed netOutline) n)
+    pub settled-net : (least : ℕ) (r : Fault) (s : Skipped) → ((next : ℕ) → i .end ≡ Next next → fault r ≡ faultAmong ws (take (i .places) (i .widths)) (take (i .transitions) (i .«transitions_at»))) → s ≡ settle least (i .end) r → IsExtent ws least (i .«places_at») (i .widths) (i .«transitions_at») (record { end = s; places = i .places; transitions = i .transitions })
+    settled-net least r s y d = record { same = rw d (by (i .end) refl) }
+      where
+        by : (k : Skipped) → i .end ≡ k → upTo (settle least k r) (outlinedNet i) ≡ changed netOutline (acceptTo ws least)
+        by (Next next) e = settled-next r e (y next e) least
+        by (Refused n p) e = refused-net ws (sym x ∙ ap (λ (k : Skipped). upTo k (outlinedNet i)) e) least
 
--- ── The answers of with_plans ──
+-- a net that cannot be read
+pub unread-extent : (ws : List ℕ) (least : ℕ) (places widths transitions : List ℕ) (r : Extent) {n p : ℕ} → skimNet ws 0 ≡ refused n p → r .end ≡ Refused n p → IsExtent ws least places widths transitions r
+unread-extent ws least places widths transitions r e d = record { same = rw d (refused-net ws e least) }
 
-module _ (ws : List ℕ) (i : NetIndex) (full : length (i .«places_at») ≡ 64) (wide : length (i .widths) ≡ 64) (long : length (i .«transitions_at») ≡ 64) (p q : ℕ) (few : p ≡ min (i .places) 64) (less : q ≡ min (i .transitions) 64) (r : Fault) (x′ : fault r ≡ faultAmong ws (take p (i .widths)) (take q (i .«transitions_at»))) where
-  pub plans-fault : {q : ℕ} (s : NetIndex) → r ≡ At q → s .end ≡ Refused unfitPlan q → IsPlanned ws i s
-  plans-fault s d g = record { planned = λ x next e net n. planned-fault ws i x full wide e long p q few less r x′ net n s d g }
+-- its end alone
+pub extent-ends : (ws : List ℕ) (least : ℕ) (r : Extent) {places widths transitions : List ℕ} → IsExtent ws least places widths transitions r → skipped (r .end) ≡ forget (acceptTo ws least)
+extent-ends ws least r x = skips (r .end) _ (x .same) ∙ forget-changed netOutline (acceptTo ws least)
 
-  pub plans-fit : r ≡ Nothing → IsPlanned ws i i
-  plans-fit d = record { planned = λ x next e net n. planned-fit ws i x full wide e long p q few less r x′ net n d }
+pub to-all : (ws : List ℕ) → acceptTo ws (length ws) ≡ acceptNet ws
+unfolding acceptTo acceptNet
+to-all ws = refl
 
--- ── Accepted nets ──
-
-module _ (ws : List ℕ) (i : NetIndex) (x : netRead i ≡ skimNet ws 0) (full : length (i .«places_at») ≡ 64) (wide : length (i .widths) ≡ 64) where
-  pub front-refused : {n p : ℕ} → i .end ≡ Refused n p → netRead i ≡ changed netOutline (acceptFront ws)
-  unfolding acceptFront
-  front-refused e = rw (refused-read ws i x e, e)
-
-  pub front-planned : {next : ℕ} (s : NetIndex) → i .end ≡ Next next → IsPlanned ws i s → netRead s ≡ changed netOutline (acceptFront ws)
-  unfolding acceptFront
-  front-planned {next} s e f = let g = found ws i x full wide e in rw (g .reads) (f .planned x next e (g .net) (g .reads))
-
-  pub net-refused : {n p : ℕ} → i .end ≡ Refused n p → netRead i ≡ changed netOutline (acceptNet ws)
-  unfolding acceptNet
-  net-refused e = rw (refused-read ws i x e, e)
-
-  pub net-left : {next : ℕ} (s : NetIndex) → i .end ≡ Next next → next < length ws → s .end ≡ Refused wordsLeft next → netRead s ≡ changed netOutline (acceptNet ws)
-  unfolding acceptNet
-  net-left {next} s e h g = rw (found ws i x full wide e .reads, lt-ltb next (length ws) h, g)
-
-  pub net-planned : {next : ℕ} (s : NetIndex) → i .end ≡ Next next → length ws ≤ next → IsPlanned ws i s → netRead s ≡ changed netOutline (acceptNet ws)
-  unfolding acceptNet
-  net-planned {next} s e h f = let g = found ws i x full wide e in rw (g .reads, le-ltb next (length ws) h) (f .planned x next e (g .net) (g .reads))
+pub to-front : (ws : List ℕ) → acceptTo ws 0 ≡ acceptFront ws
+unfolding acceptTo acceptFront
+to-front ws = by (readNet ws 0)
+  where
+    by : (r : Reading Net) → then r (λ net next. cond (ltb next 0) (refused wordsLeft next) (withPlans (plansFault (net .transitions)) net next)) ≡ then r (λ net next. withPlans (plansFault (net .transitions)) net next)
+    by (read net next) = rw (le-ltb next 0 (omega arith))
+    by (refused n p) = refl
 
 -- ── The calls ──
 
@@ -159,23 +152,30 @@ index-refused (refused m q) i {n} {p} x e =
     let y : refused n p ≡ refused m q = sym (ap (λ (k : Skipped). upTo k (outlinedNet i)) e) ∙ x in
     cc
 
-module _ (ws : List ℕ) (i : NetIndex) (x : netRead i ≡ changed netOutline (acceptNet ws)) where
-  pub checked-refused : {n p : ℕ} → i .end ≡ Refused n p → CheckRefused n p ≡ checkCall ws
+module _ (ws : List ℕ) {s : Skipped} (x : skipped s ≡ forget (acceptNet ws)) where
+  pub checked-refused : {n p : ℕ} → s ≡ Refused n p → CheckRefused n p ≡ checkCall ws
   unfolding checkCall
-  checked-refused e = rw (index-refused (acceptNet ws) i x e)
+  checked-refused {n} {p} e = by (acceptNet ws) (sym (ap skipped e) ∙ x)
+    where
+      by : (r : Reading Net) → refused n p ≡ forget r → CheckRefused n p ≡ verdict r
+      by (read net k) h = false-true (cc)
+      by (refused m q) h = let a : n ≡ m = cc in let b : p ≡ q = cc in rw (a, b)
 
-  pub checked-accepted : {next : ℕ} → i .end ≡ Next next → Accepted ≡ checkCall ws
+  pub checked-accepted : {next : ℕ} → s ≡ Next next → Accepted ≡ checkCall ws
   unfolding checkCall
-  checked-accepted e = rw (index-read (acceptNet ws) i x e .1)
+  checked-accepted {next} e = by (acceptNet ws) (sym (ap skipped e) ∙ x)
+    where
+      by : (r : Reading Net) → read tt next ≡ forget r → Accepted ≡ verdict r
+      by (read net k) h = refl
+      by (refused m q) h = false-true (cc)
 
-pub front-ends : (ws : List ℕ) (i : NetIndex) → netRead i ≡ changed netOutline (acceptFront ws) → IsFront ws (i .end)
-front-ends ws i x = by (i .end) refl
+pub front-ends : (ws : List ℕ) (s : Skipped) → skipped s ≡ forget (acceptFront ws) → IsFront ws s
+front-ends ws (Refused n p) x = record { same = x; inside = tt }
+front-ends ws (Next next) x = record { same = x; inside = by (acceptFront ws) refl x }
   where
-    by : (s : Skipped) → i .end ≡ s → IsFront ws s
-    by (Next next) e =
-        let (net, a, o) = index-read (acceptFront ws) i x e in
-        record { same = rw a; inside = front-inside ws net next a .in-words }
-    by (Refused n p) e = record { same = rw (index-refused (acceptFront ws) i x e); inside = tt }
+    by : (r : Reading Net) → acceptFront ws ≡ r → read tt next ≡ forget r → next ≤ length ws
+    by (read net k) e h = let a : k ≡ next = cc in front-inside ws net next (rw a at e) .in-words
+    by (refused m q) e h = false-true (cc)
 
 pub split-next : (ws : List ℕ) {s : Skipped} {next : ℕ} → IsFront ws s → s ≡ Next next → splitInto (drop next ws) 0 0 ≡ splitCall ws
 unfolding splitCall

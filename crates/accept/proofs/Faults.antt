@@ -1,41 +1,39 @@
 -- The rules of faults: where a plan is at fault, from what its elements bind. Each rule is one arm of the code; in the loops what is still
 -- ahead is what was ahead at first.
-use mathlib.Core.Path.{_≡_, refl, sym, ap, _∙_, subst, fun-ext}
-use Prim.Native.Nat.{ℕ, zero, suc, _+_, _-_, _≤_, _<_, min}
-use mathlib.Core.Bool.{Bool, true, false, cond, not, _&&_, _||_}
+use mathlib.Core.Path.{_≡_, refl, sym, ap, _∙_, fun-ext}
+use Prim.Native.Nat.{ℕ, zero, suc, _+_, _-_, _≤_, _<_}
+use mathlib.Core.Bool.{Bool, true, false, cond, _||_}
 use mathlib.Core.List.{List, [], _∷_, _++_}
 use mathlib.Core.Option.{Option, none, some}
 use native.Mathlib.Numerals.{add-one}
 use native.Mathlib.Omega.{arith}
 use borrow.Author.Needs.{needs}
-use borrow.Author.Tests.{lt-ltb, le-ltb, leb-true}
-use lib.Dec.{leb}
-use lib.ListN.{length, getD, getElem?, drop, take, set, replicate, length-take, drop-of-length-le}
-use lib.Seq.{drop-cons, getD-take}
+use lib.ListN.{length, getD, getElem?, drop, take, set, replicate, drop-of-length-le}
+use lib.Seq.{drop-cons}
 use Rattle.semantics.specs.Plan.{member, everyBelow, fitOr}
-use Rattle.semantics.specs.Net.{Element}
-use Rattle.semantics.specs.Reading.{Reading, read, refused, word}
+use Rattle.semantics.specs.Net as net
+use Rattle.semantics.specs.Reading.{read, refused}
 use Rattle.semantics.specs.ReadNet.{readElement, sortOf}
-use Rattle.semantics.proofs.Tests.{false-true, and-left, and-right}
-use Rattle.semantics.proofs.Readers.{Gives, gives, given, then-gives, as-read, word-reads, weaken}
+use Rattle.semantics.proofs.Tests.{false-true}
 use Rattle.expression.specs.declared.read.Skipped.{Skipped}
 use Rattle.expression.specs.declared.read.Skipped.the-variants.{Next, Refused}
-use Rattle.expression.specs.Skip.{forget}
-use Rattle.net.specs.Skim.{fitsKind, starts, skimOne, Outline, skimTransition}
-use Rattle.semantics.specs.Word.{bits, only}
-use Rattle.net.proofs.Transitions.{five-of}
+use Rattle.net.specs.Skim.{fitsKind, Outline, skimTransition, skimTransitions}
+use Rattle.semantics.specs.Word.{bits}
+use Rattle.net.proofs.Loops.{Collected, collected-start, collected-goes, collected-stops, collected-end, take-set}
+use Rattle.net.proofs.Transitions.{skips}
 use Rattle.net.specs.declared.take.Taken.{Taken}
 use Rattle.net.specs.declared.take.Taken.the-variants.{Word, Refused as TakeRefused}
-use Rattle.net.specs.declared.index.TransitionIndex.{TransitionIndex}
-use Rattle.net.specs.Index.{taken, IsTaken, upTo, outlined, transitionRead}
+use Rattle.net.specs.declared.index.Parts.{Parts}
+use Rattle.net.specs.Index.{taken, IsTaken, upTo, AreParts}
 use Rattle.accept.specs.declared.bind.Bound.{Bound}
 use Rattle.accept.specs.declared.element.Sort.{Sort}
 use Rattle.accept.specs.declared.element.Sort.the-variants.{Match, Solve, Range}
 use Rattle.accept.specs.declared.plan.Fault.{Fault}
-use Rattle.accept.specs.declared.plan.Fault.the-variants.{At, Nothing}
-use Rattle.accept.specs.Fitness.{matchAt, solveAt, bindsAt, elementOr, faultFrom, faultIn, transitionFault, firstFault, faultAmong}
-use Rattle.accept.specs.Plan.{sorted, marked, nonEmpty, fresh, IsBound, fault}
-use Rattle.accept.proofs.Binding.{bound-none, bound-new}
+use Rattle.accept.specs.declared.plan.Fault.the-variants.{Nothing}
+use Rattle.accept.specs.declared.plan.Reviewed.{Reviewed}
+use Rattle.accept.specs.Fitness.{unboundOf, matchAt, solveAt, bindsAt, planParts, elementOr, faultFrom, faultIn, transitionFault, firstFault, faultAmong}
+use Rattle.accept.specs.Plan.{sorted, marked, nonEmpty, fresh, IsBound, fault, IsReviewed, AreReviewed}
+use Rattle.accept.proofs.Binding.{bound-none}
 
 -- ── Variables that are not bound ──
 
@@ -80,198 +78,166 @@ module _ {v : ℕ} {marks : List Bool} {n : ℕ} (a : Bounded v marks n) where
 
 -- ── What an element binds ──
 
--- a member of the first n of a list, by its number
-take-at : (l : List ℕ) (n k : ℕ) → k < n → k < length l → getElem? (take n l) k ≡ some (getD l k 0)
-take-at [] n k h i = absurd (omega arith)
-take-at (x ∷ xs) zero k h i = absurd (omega arith)
-take-at (x ∷ xs) (suc n) zero h i = refl
-take-at (x ∷ xs) (suc n) (suc k) h i = take-at xs n k (omega arith) (omega arith)
+-- a member of a list, by its number
+elem-at : (l : List ℕ) (k : ℕ) → k < length l → getElem? l k ≡ some (getD l k 0)
+elem-at [] k h = absurd (omega arith)
+elem-at (x ∷ xs) zero h = refl
+elem-at (x ∷ xs) (suc k) h = elem-at xs k (omega arith)
 
-take-past : (l : List ℕ) (n k : ℕ) → n ≤ k → getElem? (take n l) k ≡ none
-take-past l zero k h = refl
-take-past [] (suc n) k h = refl
-take-past (x ∷ xs) (suc n) zero h = absurd (omega arith)
-take-past (x ∷ xs) (suc n) (suc k) h = take-past xs n k (omega arith)
+elem-past : (l : List ℕ) (k : ℕ) → length l ≤ k → getElem? l k ≡ none
+elem-past [] k h = refl
+elem-past (x ∷ xs) zero h = absurd (omega arith)
+elem-past (x ∷ xs) (suc k) h = elem-past xs k (omega arith)
 
-take-end : (l : List ℕ) (n k : ℕ) → length l ≤ k → getElem? (take n l) k ≡ none
-take-end l zero k h = refl
-take-end [] (suc n) k h = refl
-take-end (x ∷ xs) (suc n) zero h = absurd (omega arith)
-take-end (x ∷ xs) (suc n) (suc k) h = take-end xs n k (omega arith)
-
-module _ (ws widths : List ℕ) (t : TransitionIndex) (marks : List Bool) {s : Sort} where
-  pub match-past : {k : ℕ} → s ≡ Match k → t .inputs ≤ k → IsBound (fresh marks) (bindsAt ws widths (outlined t) (marked marks) (sorted s)) (fresh marks)
+module _ (ws widths : List ℕ) (v : ℕ) (inputs guard : List ℕ) (marks : List Bool) {s : Sort} where
+  pub match-past : {k : ℕ} → s ≡ Match k → length inputs ≤ k → IsBound (fresh marks) (bindsAt ws widths (planParts v inputs guard) (marked marks) (sorted s)) (fresh marks)
   unfolding bindsAt
-  match-past {k} e h = rw (e, take-past (t .«inputs_at») (t .inputs) k h) (bound-none (fresh marks))
+  match-past {k} e h = rw (e, elem-past inputs k h) (bound-none (fresh marks))
 
-  pub match-end : {k : ℕ} → s ≡ Match k → length (t .«inputs_at») ≡ 8 → 8 ≤ k → IsBound (fresh marks) (bindsAt ws widths (outlined t) (marked marks) (sorted s)) (fresh marks)
+  pub match-there : {k : ℕ} {r : Bound} → s ≡ Match k → k < length inputs → IsBound (fresh marks) (matchAt ws widths v (marked marks) (getD inputs k 0)) r → IsBound (fresh marks) (bindsAt ws widths (planParts v inputs guard) (marked marks) (sorted s)) r
   unfolding bindsAt
-  match-end {k} e l h = rw (e, take-end (t .«inputs_at») (t .inputs) k (omega arith)) (bound-none (fresh marks))
+  match-there {k} e h x = rw (e, elem-at inputs k h) x
 
-  pub match-there : {k : ℕ} {r : Bound} → s ≡ Match k → k < t .inputs → length (t .«inputs_at») ≡ 8 → k < 8 → IsBound (fresh marks) (matchAt ws widths (t .variables) (marked marks) (getD (t .«inputs_at») k 0)) r → IsBound (fresh marks) (bindsAt ws widths (outlined t) (marked marks) (sorted s)) r
+  pub solve-past : {k : ℕ} → s ≡ Solve k → length guard ≤ k → IsBound (fresh marks) (bindsAt ws widths (planParts v inputs guard) (marked marks) (sorted s)) (fresh marks)
   unfolding bindsAt
-  match-there {k} e h l i x = rw (e, take-at (t .«inputs_at») (t .inputs) k h (omega arith)) x
+  solve-past {k} e h = rw (e, elem-past guard k h) (bound-none (fresh marks))
 
-  pub solve-past : {k : ℕ} → s ≡ Solve k → t .conjuncts ≤ k → IsBound (fresh marks) (bindsAt ws widths (outlined t) (marked marks) (sorted s)) (fresh marks)
+  pub solve-there : {k : ℕ} {r : Bound} → s ≡ Solve k → k < length guard → IsBound (fresh marks) (solveAt ws v (marked marks) (getD guard k 0)) r → IsBound (fresh marks) (bindsAt ws widths (planParts v inputs guard) (marked marks) (sorted s)) r
   unfolding bindsAt
-  solve-past {k} e h = rw (e, take-past (t .«conjuncts_at») (t .conjuncts) k h) (bound-none (fresh marks))
+  solve-there {k} e h x = rw (e, elem-at guard k h) x
 
-  pub solve-end : {k : ℕ} → s ≡ Solve k → length (t .«conjuncts_at») ≡ 8 → 8 ≤ k → IsBound (fresh marks) (bindsAt ws widths (outlined t) (marked marks) (sorted s)) (fresh marks)
+  pub range-there : {n : ℕ} {r : Bound} → s ≡ Range n → IsBound (fresh marks) (unboundOf v (marked marks) n) r → IsBound (fresh marks) (bindsAt ws widths (planParts v inputs guard) (marked marks) (sorted s)) r
   unfolding bindsAt
-  solve-end {k} e l h = rw (e, take-end (t .«conjuncts_at») (t .conjuncts) k (omega arith)) (bound-none (fresh marks))
-
-  pub solve-there : {k : ℕ} {r : Bound} → s ≡ Solve k → k < t .conjuncts → length (t .«conjuncts_at») ≡ 8 → k < 8 → IsBound (fresh marks) (solveAt ws (t .variables) (marked marks) (getD (t .«conjuncts_at») k 0)) r → IsBound (fresh marks) (bindsAt ws widths (outlined t) (marked marks) (sorted s)) r
-  unfolding bindsAt
-  solve-there {k} e h l i x = rw (e, take-at (t .«conjuncts_at») (t .conjuncts) k h (omega arith)) x
-
-  pub range-past : {n : ℕ} → s ≡ Range n → t .variables ≤ n → IsBound (fresh marks) (bindsAt ws widths (outlined t) (marked marks) (sorted s)) (fresh marks)
-  unfolding bindsAt
-  range-past {n} e h = rw (e, le-ltb n (t .variables) h) (bound-none (fresh marks))
-
-  pub range-bound : {n : ℕ} → s ≡ Range n → n < t .variables → marked marks n ≡ true → IsBound (fresh marks) (bindsAt ws widths (outlined t) (marked marks) (sorted s)) (fresh marks)
-  unfolding bindsAt
-  range-bound {n} e h m = rw (e, lt-ltb n (t .variables) h, m) (bound-none (fresh marks))
-
-  pub range-new : {n : ℕ} → s ≡ Range n → t .variables ≤ 8 → n < t .variables → length marks ≡ 8 → marked marks n ≡ false → IsBound (fresh marks) (bindsAt ws widths (outlined t) (marked marks) (sorted s)) (record { some = true; marks = set marks n true })
-  unfolding bindsAt
-  range-new {n} e v h l m = rw (e, lt-ltb n (t .variables) h, m) (bound-new (fresh marks) n (omega arith))
-
--- ── Transitions, one after the other ──
-
-pub record Unfaulted (ws widths ats : List ℕ) (i : ℕ) : Type 0 where
-  pub inside : i ≤ length ats
-  pub same : faultAmong ws widths ats ≡ faultAmong ws widths (drop i ats)
-
-pub unfaulted-start : (ws widths ats : List ℕ) → Unfaulted ws widths ats 0
-unfaulted-start ws widths ats = record { inside = omega arith; same = refl }
-
-module _ (ws widths ats : List ℕ) {i : ℕ} (a : Unfaulted ws widths ats i) where
-  first-of : i < length ats → faultAmong ws widths ats ≡ firstFault (transitionFault ws widths (getD ats i 0)) (faultAmong ws widths (drop (i + 1) ats))
-  unfolding faultAmong
-  first-of h = a .same ∙ ap (faultAmong ws widths) (drop-cons ats i 0 h ∙ ap (λ (k : ℕ). getD ats i 0 ∷ drop k ats) (sym (add-one i)))
-
-  pub faulted : {r : Fault} {p : ℕ} → i < length ats → fault r ≡ transitionFault ws widths (getD ats i 0) → r ≡ At p → some p ≡ faultAmong ws widths ats
-  faulted h e d = sym (first-of h ∙ ap (λ (o : Option ℕ). firstFault o (faultAmong ws widths (drop (i + 1) ats))) (sym e ∙ ap fault d))
-
-  pub unfaulted-turn : {r : Fault} → i < length ats → fault r ≡ transitionFault ws widths (getD ats i 0) → r ≡ Nothing → Unfaulted ws widths ats (i + 1)
-  unfaulted-turn h e d = record { inside = omega arith; same = first-of h ∙ ap (λ (o : Option ℕ). firstFault o (faultAmong ws widths (drop (i + 1) ats))) (sym e ∙ ap fault d) }
-
-  pub unfaulted-end : length ats ≤ i → none ≡ faultAmong ws widths ats
-  unfolding faultAmong
-  unfaulted-end h = sym (a .same ∙ ap (faultAmong ws widths) (drop-of-length-le ats {i = i} h))
+  range-there e x = rw e x
 
 -- ── Elements, one after the other ──
 
 -- no element so far is at fault
-pub record Planned (ws widths : List ℕ) (o : Outline) (at : ℕ) (marks : List Bool) (i : ℕ) : Type 0 where
-  pub inside : i ≤ length (o .plan)
-  pub same : faultFrom ws widths o at (λ k. false) (o .plan) ≡ faultFrom ws widths o at (marked marks) (drop i (o .plan))
+pub record Planned (ws widths : List ℕ) (o : Outline) (ps : List ℕ) (at : ℕ) (marks : List Bool) (i : ℕ) : Type 0 where
+  pub inside : i ≤ length ps
+  pub same : faultFrom ws widths o at (λ k. false) ps ≡ faultFrom ws widths o at (marked marks) (drop i ps)
 
-module _ (ws widths : List ℕ) (o : Outline) (at : ℕ) {marks : List Bool} {i : ℕ} (a : Planned ws widths o at marks i) where
-  plan-next : i < length (o .plan) → faultFrom ws widths o at (λ k. false) (o .plan) ≡ faultFrom ws widths o at (marked marks) (getD (o .plan) i 0 ∷ drop (i + 1) (o .plan))
-  plan-next h = a .same ∙ ap (faultFrom ws widths o at (marked marks)) (drop-cons (o .plan) i 0 h ∙ ap (λ (k : ℕ). getD (o .plan) i 0 ∷ drop k (o .plan)) (sym (add-one i)))
+module _ (ws widths : List ℕ) (o : Outline) (ps : List ℕ) (at : ℕ) {marks : List Bool} {i : ℕ} (a : Planned ws widths o ps at marks i) where
+  plan-next : i < length ps → faultFrom ws widths o at (λ k. false) ps ≡ faultFrom ws widths o at (marked marks) (getD ps i 0 ∷ drop (i + 1) ps)
+  plan-next h = a .same ∙ ap (faultFrom ws widths o at (marked marks)) (drop-cons ps i 0 h ∙ ap (λ (k : ℕ). getD ps i 0 ∷ drop k ps) (sym (add-one i)))
 
   -- the element at the next position
-  element-at : {t : Taken} {w : ℕ} → IsTaken ws (getD (o .plan) i 0) 0xA t → t ≡ Word w → readElement ws (getD (o .plan) i 0) ≡ read (record { position = getD (o .plan) i 0; sort = sortOf (bits 8 9 w) (bits 0 7 w) }) (getD (o .plan) i 0 + 1)
+  element-at : {t : Taken} {w : ℕ} → IsTaken ws (getD ps i 0) 0xA t → t ≡ Word w → readElement ws (getD ps i 0) ≡ read (record { position = getD ps i 0; sort = sortOf (bits 8 9 w) (bits 0 7 w) }) (getD ps i 0 + 1)
   unfolding readElement fitsKind
-  element-at x e = rw (sym (x .same) ∙ ap (taken (getD (o .plan) i 0)) e)
+  element-at x e = rw (sym (x .same) ∙ ap (taken (getD ps i 0)) e)
 
-  element-none : {t : Taken} {m q : ℕ} → IsTaken ws (getD (o .plan) i 0) 0xA t → t ≡ TakeRefused m q → readElement ws (getD (o .plan) i 0) ≡ refused m q
+  element-none : {t : Taken} {m q : ℕ} → IsTaken ws (getD ps i 0) 0xA t → t ≡ TakeRefused m q → readElement ws (getD ps i 0) ≡ refused m q
   unfolding readElement fitsKind
-  element-none x e = rw (sym (x .same) ∙ ap (taken (getD (o .plan) i 0)) e)
+  element-none x e = rw (sym (x .same) ∙ ap (taken (getD ps i 0)) e)
 
-  pub plan-unread : i < length (o .plan) → {t : Taken} {m q : ℕ} → IsTaken ws (getD (o .plan) i 0) 0xA t → t ≡ TakeRefused m q → some (getD (o .plan) i 0) ≡ faultFrom ws widths o at (λ k. false) (o .plan)
+  pub plan-unread : i < length ps → {t : Taken} {m q : ℕ} → IsTaken ws (getD ps i 0) 0xA t → t ≡ TakeRefused m q → some (getD ps i 0) ≡ faultFrom ws widths o at (λ k. false) ps
   unfolding faultFrom
   plan-unread h x e = sym (plan-next h ∙ rw (element-none x e))
 
-  module _ (h : i < length (o .plan)) {t : Taken} {w : ℕ} (x : IsTaken ws (getD (o .plan) i 0) 0xA t) (e : t ≡ Word w) (s : Sort) (y : sorted s ≡ sortOf (bits 8 9 w) (bits 0 7 w)) {r : Bound} (z : IsBound (fresh marks) (bindsAt ws widths o (marked marks) (sorted s)) r) where
-    pub plan-unfit : r .some ≡ false → some (getD (o .plan) i 0) ≡ faultFrom ws widths o at (λ k. false) (o .plan)
+  module _ (h : i < length ps) {t : Taken} {w : ℕ} (x : IsTaken ws (getD ps i 0) 0xA t) (e : t ≡ Word w) (s : Sort) (y : sorted s ≡ sortOf (bits 8 9 w) (bits 0 7 w)) {r : Bound} (z : IsBound (fresh marks) (bindsAt ws widths o (marked marks) (sorted s)) r) where
+    pub plan-unfit : r .some ≡ false → some (getD ps i 0) ≡ faultFrom ws widths o at (λ k. false) ps
     unfolding faultFrom
     plan-unfit f = sym (plan-next h ∙ rw (element-at x e, ← y) (by (bindsAt ws widths o (marked marks) (sorted s)) (sym (z .some) ∙ f)))
       where
-        by : (ns : List ℕ) → (nonEmpty ns || false) ≡ false → fitOr ns (getD (o .plan) i 0) (λ ns. faultFrom ws widths o at (λ k. member ns k || marked marks k) (drop (i + 1) (o .plan))) ≡ some (getD (o .plan) i 0)
+        by : (ns : List ℕ) → (nonEmpty ns || false) ≡ false → fitOr ns (getD ps i 0) (λ ns. faultFrom ws widths o at (λ k. member ns k || marked marks k) (drop (i + 1) ps)) ≡ some (getD ps i 0)
         by [] q = refl
         by (n ∷ ns) q = false-true (sym q)
 
-    pub plan-turn : r .some ≡ true → Planned ws widths o at (r .marks) (i + 1)
+    pub plan-turn : r .some ≡ true → Planned ws widths o ps at (r .marks) (i + 1)
     unfolding faultFrom
     plan-turn f = record { inside = omega arith; same = plan-next h ∙ rw (element-at x e, ← y) (by (bindsAt ws widths o (marked marks) (sorted s)) (sym (z .some) ∙ f) (z .marks)) }
       where
-        by : (ns : List ℕ) → (nonEmpty ns || false) ≡ true → ((k : ℕ) → marked (r .marks) k ≡ (member ns k || marked marks k)) → fitOr ns (getD (o .plan) i 0) (λ ns. faultFrom ws widths o at (λ k. member ns k || marked marks k) (drop (i + 1) (o .plan))) ≡ faultFrom ws widths o at (marked (r .marks)) (drop (i + 1) (o .plan))
+        by : (ns : List ℕ) → (nonEmpty ns || false) ≡ true → ((k : ℕ) → marked (r .marks) k ≡ (member ns k || marked marks k)) → fitOr ns (getD ps i 0) (λ ns. faultFrom ws widths o at (λ k. member ns k || marked marks k) (drop (i + 1) ps)) ≡ faultFrom ws widths o at (marked (r .marks)) (drop (i + 1) ps)
         by [] q g = false-true q
-        by (n ∷ ns) q g = ap (λ (p : ℕ → Bool). faultFrom ws widths o at p (drop (i + 1) (o .plan))) (fun-ext (λ k. sym (g k)))
+        by (n ∷ ns) q g = ap (λ (p : ℕ → Bool). faultFrom ws widths o at p (drop (i + 1) ps)) (fun-ext (λ k. sym (g k)))
 
-  pub plan-end : {r : Option ℕ} → length (o .plan) ≤ i → r ≡ cond (everyBelow (o .variables) (marked marks)) none (some at) → r ≡ faultFrom ws widths o at (λ k. false) (o .plan)
+  pub plan-end : {r : Option ℕ} → length ps ≤ i → r ≡ cond (everyBelow (o .variables) (marked marks)) none (some at) → r ≡ faultFrom ws widths o at (λ k. false) ps
   unfolding faultFrom
-  plan-end h x = x ∙ sym (a .same ∙ ap (faultFrom ws widths o at (marked marks)) (drop-of-length-le (o .plan) {i = i} h))
+  plan-end h x = x ∙ sym (a .same ∙ ap (faultFrom ws widths o at (marked marks)) (drop-of-length-le ps {i = i} h))
 
 -- ── The plan of a transition ──
 
--- a transition that was read has at most eight variables and elements
-outline-few : (ws widths : List ℕ) (at : ℕ) → Gives (λ (o : Outline) (next : ℕ). o .variables ≤ 8) (skimTransition ws widths at)
-unfolding skimTransition fitsKind
-outline-few ws widths at =
-    then-gives (given-fits ws at) (λ w n h. then-gives (as-read (forget (starts (bits 0 3 w) (skimOne ws widths (bits 0 3 w) 3) n))) (λ u n i. then-gives (as-read (starts (bits 4 7 w) (skimOne ws widths (bits 0 3 w) 5) n)) (λ is n i. then-gives (as-read (starts (bits 8 11 w) (skimOne ws widths (bits 0 3 w) 5) n)) (λ os n i. then-gives (as-read (starts (bits 12 15 w) (skimOne ws widths (bits 0 3 w) 6) n)) (λ gs n i. then-gives (as-read (starts (bits 16 19 w) (skimOne ws widths (bits 0 3 w) 0xA) n)) (λ es n i. gives h))))))
-  where
-    given-fits : (ws : List ℕ) (at : ℕ) → Gives (λ (w : ℕ) (next : ℕ). bits 0 3 w ≤ 8) (word ws 4 (fitsKind 4) at)
-    given-fits ws at = weaken (λ w next p. leb-true (bits 0 3 w) 8 (five-of (only 20 w) (leb (bits 0 3 w) 8) (leb (bits 4 7 w) 8) (leb (bits 8 11 w) 8) (leb (bits 12 15 w) 8) (leb (bits 16 19 w) 8) (p .0) .0)) (word-reads ws 4 (fitsKind 4) at)
-
--- the index of a transition that was read, and its outline
-pub record Indexed (ws widths : List ℕ) (at : ℕ) (t : TransitionIndex) : Type 0 where
-  pub reads : (next : ℕ) × (skimTransition ws widths at ≡ read (outlined t) next)
-  pub few : t .variables ≤ 8
-  pub full : length (t .«elements_at») ≡ 8
-
-pub indexed : (ws widths : List ℕ) (at : ℕ) (t : TransitionIndex) {next : ℕ} → transitionRead t ≡ skimTransition ws widths at → t .end ≡ Next next → length (t .«elements_at») ≡ 8 → Indexed ws widths at t
-indexed ws widths at t {next} x e l =
-    let r : skimTransition ws widths at ≡ read (outlined t) next = sym x ∙ ap (λ (k : Skipped). upTo k (outlined t)) e in
-    record { reads = (next, r); few = given (outline-few ws widths at) r; full = l }
-
-module _ {ws widths : List ℕ} {at : ℕ} {t : TransitionIndex} (x : Indexed ws widths at t) where
-  pub plan-length : length (outlined t .plan) ≡ min (t .elements) 8
-  plan-length = length-take (t .elements) (t .«elements_at») ∙ ap (min (t .elements)) (x .full)
-
-  pub plan-position : (i : ℕ) → i < t .elements → getD (outlined t .plan) i 0 ≡ getD (t .«elements_at») i 0
-  plan-position i h = getD-take (t .elements) (t .«elements_at») i 0 h
-
-  pub fault-of : {o : Option ℕ} → o ≡ faultFrom ws widths (outlined t) at (λ k. false) (outlined t .plan) → o ≡ transitionFault ws widths at
-  fault-of e = e ∙ sym (ap (faultIn ws widths at) (x .reads .1))
-
-pub unread-fault : (ws widths : List ℕ) (at : ℕ) (t : TransitionIndex) {n p : ℕ} → transitionRead t ≡ skimTransition ws widths at → t .end ≡ Refused n p → none ≡ transitionFault ws widths at
-unread-fault ws widths at t x e = sym (ap (faultIn ws widths at) (sym x ∙ ap (λ (k : Skipped). upTo k (outlined t)) e))
-
-pub planned-start : (ws widths : List ℕ) (o : Outline) (at : ℕ) → Planned ws widths o at (replicate 8 false) 0
-planned-start ws widths o at = record { inside = omega arith; same = ap (λ (p : ℕ → Bool). faultFrom ws widths o at p (o .plan)) (fun-ext (λ k. unmarked 8 k)) }
+pub planned-start : (ws widths : List ℕ) (o : Outline) (ps : List ℕ) (at : ℕ) → Planned ws widths o ps at (replicate 8 false) 0
+planned-start ws widths o ps at = record { inside = omega arith; same = ap (λ (p : ℕ → Bool). faultFrom ws widths o at p ps) (fun-ext (λ k. unmarked 8 k)) }
   where
     unmarked : (n k : ℕ) → false ≡ marked (replicate n false) k
     unmarked zero k = refl
     unmarked (suc n) zero = refl
     unmarked (suc n) (suc k) = unmarked n k
 
--- ── The code's loop over elements ──
+-- the parts that a plan names are all that its faults are told from
+parts-fault : (ws widths : List ℕ) (o : Outline) (at : ℕ) (isBound : ℕ → Bool) (ps : List ℕ) → faultFrom ws widths (planParts (o .variables) (o .inputs) (o .guard)) at isBound ps ≡ faultFrom ws widths o at isBound ps
+unfolding faultFrom bindsAt
+parts-fault ws widths o at isBound [] = refl
+parts-fault ws widths o at isBound (p ∷ ps) =
+    ap (elementOr (readElement ws p) p)
+    (fun-ext (λ s.
+    ap (λ (ns : List ℕ). fitOr ns p (λ ns. faultFrom ws widths (planParts (o .variables) (o .inputs) (o .guard)) at (λ k. member ns k || isBound k) ps)) (same s)
+    ∙ ap (fitOr (bindsAt ws widths o isBound s) p) (fun-ext (λ ns. parts-fault ws widths o at (λ k. member ns k || isBound k) ps))))
+  where
+    same : (s : net.Sort) → bindsAt ws widths (planParts (o .variables) (o .inputs) (o .guard)) isBound s ≡ bindsAt ws widths o isBound s
+    same (net.match k) = refl
+    same (net.solve k) = refl
+    same (net.range n) = refl
 
-module _ {ws widths : List ℕ} {at : ℕ} {t : TransitionIndex} {marks : List Bool} {i : ℕ} (x : Indexed ws widths at t) (a : Planned ws widths (outlined t) at marks i) where
-  module _ (h : i < min (t .elements) 8) {k : Taken} (y : IsTaken ws (getD (t .«elements_at») i 0) 0xA k) where
-    shorter : i < length (outlined t .plan)
-    shorter = let l = plan-length x in omega arith
+-- a transition whose parts stand in tables
+module _ (ws widths : List ℕ) (at : ℕ) {ins outs guard plan : List ℕ} (t : Parts) (x : AreParts ws widths at ins outs guard plan t) where
+  outlined : Outline
+  outlined = record { variables = t .variables; inputs = take (t .inputs) ins; outputs = take (t .outputs) outs; guard = take (t .conjuncts) guard; plan = take (t .elements) plan }
 
-    there : getD (outlined t .plan) i 0 ≡ getD (t .«elements_at») i 0
-    there = plan-position x i (omega arith)
+  read-to : {end : Skipped} → t .end ≡ end → skimTransition ws widths at ≡ upTo end outlined
+  unfolding outlined
+  read-to e = sym (x .same) ∙ ap (λ (k : Skipped). upTo k outlined) e
 
-    word-there : IsTaken ws (getD (outlined t .plan) i 0) 0xA k
-    word-there = subst (λ (p : ℕ). IsTaken ws p 0xA k) (sym there) y
+  pub unread-plan : {n p : ℕ} → t .end ≡ Refused n p → IsReviewed ws widths at (record { end = t .end; fault = Nothing })
+  unfolding outlined
+  unread-plan e = record { ends = skips (t .end) outlined (x .same); faults = sym (ap (faultIn ws widths at) (read-to e)) }
 
-    pub step-unread : {m q : ℕ} → k ≡ TakeRefused m q → some (getD (t .«elements_at») i 0) ≡ transitionFault ws widths at
-    step-unread e = ap some (sym there) ∙ fault-of x (plan-unread ws widths (outlined t) at a shorter word-there e)
+  pub plan-read : {next : ℕ} (f : Fault) → t .end ≡ Next next → fault f ≡ faultFrom ws widths (planParts (t .variables) (take (t .inputs) ins) (take (t .conjuncts) guard)) at (λ k. false) (take (t .elements) plan) → IsReviewed ws widths at (record { end = t .end; fault = f })
+  unfolding outlined
+  plan-read f e y = record { ends = skips (t .end) outlined (x .same); faults = y ∙ parts-fault ws widths outlined at (λ k. false) (take (t .elements) plan) ∙ sym (ap (faultIn ws widths at) (read-to e)) }
 
-    module _ {w : ℕ} (e : k ≡ Word w) (s : Sort) (z : sorted s ≡ sortOf (bits 8 9 w) (bits 0 7 w)) {r : Bound} (u : IsBound (fresh marks) (bindsAt ws widths (outlined t) (marked marks) (sorted s)) r) where
-      pub step-unfit : r .some ≡ false → some (getD (t .«elements_at») i 0) ≡ transitionFault ws widths at
-      step-unfit f = ap some (sym there) ∙ fault-of x (plan-unfit ws widths (outlined t) at a shorter word-there e s z u f)
+-- ── Transitions, one after the other ──
 
-      pub step-turn : r .some ≡ true → Planned ws widths (outlined t) at (r .marks) (i + 1)
-      step-turn f = plan-turn ws widths (outlined t) at a shorter word-there e s z u f
+-- one more transition
+among-last : (ws widths ats : List ℕ) (at : ℕ) → faultAmong ws widths (ats ++ (at ∷ [])) ≡ firstFault (faultAmong ws widths ats) (transitionFault ws widths at)
+unfolding faultAmong
+among-last ws widths [] at = by (transitionFault ws widths at)
+  where
+    by : (o : Option ℕ) → firstFault o none ≡ o
+    by none = refl
+    by (some p) = refl
+among-last ws widths (a ∷ ats) at = ap (firstFault (transitionFault ws widths a)) (among-last ws widths ats at) ∙ by (transitionFault ws widths a)
+  where
+    by : (o : Option ℕ) → firstFault o (firstFault (faultAmong ws widths ats) (transitionFault ws widths at)) ≡ firstFault (firstFault o (faultAmong ws widths ats)) (transitionFault ws widths at)
+    by none = refl
+    by (some p) = refl
 
-  pub step-end : {o : Option ℕ} → min (t .elements) 8 ≤ i → o ≡ cond (everyBelow (t .variables) (marked marks)) none (some at) → o ≡ transitionFault ws widths at
-  step-end h e = let l = plan-length x in fault-of x (plan-end ws widths (outlined t) at a (omega arith) e)
+-- the i first of n transitions were read, and f is the first fault of their plans
+pub record Reviewing (ws widths : List ℕ) (n at i next : ℕ) (begins : List ℕ) (f : Fault) : Type 0 where
+  pub collected : Collected (skimTransitions ws widths) n at i next begins
+  pub faults : fault f ≡ faultAmong ws widths (take i begins)
 
-pub ruleset faults = (needs, bounded-turn, bounded-stop, bounded-end, match-past, match-end, match-there, solve-past, solve-end, solve-there, range-past, range-bound, range-new, faulted, unfaulted-turn, unfaulted-end)
+pub reviewing-start : (ws widths : List ℕ) (n at : ℕ) (begins : List ℕ) → Reviewing ws widths n at 0 at begins Nothing
+unfolding faultAmong
+reviewing-start ws widths n at begins = record { collected = collected-start (skimTransitions ws widths) n at begins; faults = refl }
+
+module _ {ws widths : List ℕ} {n at i next : ℕ} {begins : List ℕ} {f : Fault} (a : Reviewing ws widths n at i next begins f) where
+  pub reviewing-end : n ≤ i → AreReviewed ws widths n at begins (record { end = Next next; fault = f })
+  reviewing-end h =
+      let g = a .collected .gathered .inside in
+      let e : i ≡ n = omega arith in
+      record { same = collected-end (a .collected) h; faults = λ k d. rw e at (a .faults) }
+
+  module _ (h : i < n) {t : Reviewed} (x : IsReviewed ws widths next t) where
+    pub reviewing-goes : {p : ℕ} {g : Fault} → n ≤ length begins → t .end ≡ Next p → fault g ≡ firstFault (fault f) (fault (t .fault)) → Reviewing ws widths n at (i + 1) p (set begins i next) g
+    reviewing-goes l d e =
+        record {
+          collected = collected-goes (a .collected) h (x .ends) l d;
+          faults = e ∙ rw (a .faults, x .faults) (sym (among-last ws widths (take i begins) next)) ∙ sym (ap (faultAmong ws widths) (take-set begins i next (omega arith)));
+        }
+
+    pub reviewing-stops : {m q : ℕ} (begins′ : List ℕ) → t .end ≡ Refused m q → AreReviewed ws widths n at begins′ t
+    reviewing-stops begins′ d = record { same = rw d (collected-stops (a .collected) h (x .ends) d); faults = λ k e. let z : Refused _ _ ≡ Next k = sym d ∙ e in false-true (cc) }
+
+pub ruleset faults = (needs, bounded-turn, bounded-stop, bounded-end, match-past, match-there, solve-past, solve-there, range-there, plan-unread, plan-unfit, plan-turn, plan-end, reviewing-end, reviewing-goes, reviewing-stops)

@@ -1,37 +1,35 @@
 -- What the words say of a plan is what semantics says of the transition that was read there: each part stands at its position, a variable
 -- alone is one VARIABLE word, and the variables of an expression are its VARIABLE words.
-use mathlib.Core.Path.{_≡_, refl, sym, ap, _∙_, subst, fun-ext}
+use mathlib.Core.Path.{_≡_, refl, sym, ap, _∙_, fun-ext}
 use mathlib.Core.Logic.{_⊎_, inl, inr}
-use Prim.Native.Nat.{ℕ, zero, suc, _+_, _<_, _≤_}
+use Prim.Native.Nat.{ℕ, zero, suc, _+_, _<_}
 use mathlib.Core.Bool.{Bool, true, false, cond, not, _&&_, _||_, and-true}
 use mathlib.Core.List.{List, [], _∷_, _++_, map}
 use mathlib.Core.Option.{Option, none, some, Option·map}
 use native.Mathlib.Omega.{arith}
-use borrow.Author.Tests.{ltb-true, ltb-false, lt-ltb, eq-eqb, ne-eqb, leb-true, le-leb, lt-leb, eqb-true, eqb-false}
+use borrow.Author.Tests.{ltb-true, ltb-false, eq-eqb, ne-eqb, le-leb, lt-leb}
 use lib.Dec.{ltb, eqb, leb}
-use lib.IntN.{ℤ, pos, negsuc}
 use lib.ListN.{length, getD, getElem?}
 use Rattle.semantics.specs.Refusal.{mostWords}
-use Rattle.semantics.specs.Lists.{Every, every}
+use Rattle.semantics.specs.Lists.{Every}
 use Rattle.semantics.specs.Word.{kind, payload, signed, between}
 use Rattle.semantics.specs.Expression.{Expression, constant, variable, binary, load, everyVariable}
 use Rattle.semantics.specs.Reading.{Reading, read, refused, then, Reader, demand, several, wordAt, word}
-use Rattle.semantics.specs.Net.{Place, Arc, Relation, equal, unequal, less, atMost, Conjunct, Sort, match, solve, range, Element, Transition, rangesAt}
+use Rattle.semantics.specs.Net.{Place, Arc, equal, unequal, less, atMost, Conjunct, Sort, match, solve, range, Element, Transition, rangesAt}
 use Rattle.semantics.specs.ReadNet.{readExpression, readArc, relationOf, readConjunct, readElement, readTransition}
 use Rattle.semantics.specs.Plan.{loneUnbound, positiveConstant, solvedBy, eitherSide, isEquation, solution, solutionBinds, matchBinds, solveBinds, newlyBound, member, fitOr, planFault, plansFault, firstOf as firstOf′}
 use Rattle.semantics.proofs.Readers.{Gives, gives, given, then-gives, as-read}
-use Rattle.semantics.proofs.Tests.{false-true, either, and-left, and-right, and-both, Every-at}
+use Rattle.semantics.proofs.Tests.{false-true, either, Every-at}
 use Rattle.semantics.proofs.Accepted.{SoundArc, SoundConjunct, SoundTransition}
 use Rattle.semantics.proofs.Partial.{member-append}
-use Rattle.semantics.proofs.Members.{none-some, at-member, map-at}
-use Rattle.expression.specs.Skip.{forget}
+use Rattle.semantics.proofs.Members.{at-member, map-at}
 use Rattle.expression.specs.Skip as skip
 use Rattle.expression.proofs.Spelled.{HeadWord, headOfTree}
-use Rattle.expression.proofs.Laws.{variablePasses, expression-short, variables-flat, first-word, variable-alone, constant-alone}
-use Rattle.net.specs.Skim.{changed, fitsKind, skimExpression, Outline, outline, skimTransition, width}
+use Rattle.expression.proofs.Laws.{expression-short, variables-flat, first-word, constant-alone}
+use Rattle.net.specs.Skim.{changed, fitsKind, outline, skimTransition, width}
 use Rattle.net.proofs.Skimming.{several-length, widths-at, skim-transition}
 use Rattle.net.proofs.Located.{At, Parts, transition-parts}
-use Rattle.accept.specs.Fitness.{after, loneAt, loneFrom, matchAt, allBound, solvedAt, firstOf, solveAt, atMember, bindsAt, elementOr, faultFrom, faultIn, transitionFault, firstFault, faultAmong}
+use Rattle.accept.specs.Fitness.{after, loneAt, loneFrom, matchAt, allBound, firstOf, solveAt, atMember, bindsAt, faultFrom, firstFault, faultAmong}
 
 -- ── A variable alone ──
 

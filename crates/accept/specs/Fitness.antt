@@ -1,11 +1,11 @@
 -- Refusal 5 on the words of a net that was read: what an element binds, told from the positions of a transition's parts.
 -- proofs/Fitness.antt shows that it is what semantics says of the transition there. Rests on net/specs/Skim.
 use Prim.Native.Nat.{ℕ, zero, suc, _+_}
-use mathlib.Core.Bool.{Bool, true, false, cond, not, _&&_, _||_}
+use mathlib.Core.Bool.{Bool, false, cond, not, _&&_, _||_}
 use mathlib.Core.List.{List, [], _∷_, _++_}
 use mathlib.Core.Option.{Option, none, some}
 use lib.Dec.{ltb, eqb}
-use lib.ListN.{length, getD, getElem?}
+use lib.ListN.{getD, getElem?}
 use lib.Seq.{slice}
 use Rattle.semantics.specs.Lists.{every}
 use Rattle.semantics.specs.Word.{between}
@@ -21,9 +21,13 @@ abbrev pub after : {A : Type 0} → Reading A → (A → ℕ → List ℕ) → L
 after (read a next) k = k a next
 after (refused n p) k = []
 
+-- a variable of v, if it is unbound
+abbrev pub unboundOf : ℕ → (ℕ → Bool) → ℕ → List ℕ
+unboundOf v isBound n = cond (ltb n v && not (isBound n)) (n ∷ []) []
+
 -- an unbound variable of v that stands alone at a position
 abbrev pub loneAt : List ℕ → ℕ → (ℕ → Bool) → ℕ → List ℕ
-loneAt ws v isBound at = after (word ws 8 (fitsKind 8) at) (λ n next. cond (ltb n v && not (isBound n)) (n ∷ []) [])
+loneAt ws v isBound at = after (word ws 8 (fitsKind 8) at) (λ n next. unboundOf v isBound n)
 
 -- those of so many expressions, one after the other
 unfoldable pub loneFrom : List ℕ → ℕ → (ℕ → Bool) → ℕ → ℕ → List ℕ
@@ -52,6 +56,10 @@ unfoldable pub solveAt : List ℕ → ℕ → (ℕ → Bool) → ℕ → List �
 solveAt ws v isBound at =
     after (word ws 6 (fitsKind 6) at) (λ k left. cond (eqb k 0) (after (skimExpression ws v left) (λ u right. after (skimExpression ws v right) (λ u end. firstOf (solvedAt ws v isBound left right end) (solvedAt ws v isBound right left right)))) [])
 
+-- what the elements of a plan name: variables, input arcs and conjuncts
+abbrev pub planParts : ℕ → List ℕ → List ℕ → Outline
+planParts v inputs guard = record { variables = v; inputs = inputs; outputs = []; guard = guard; plan = [] }
+
 abbrev pub atMember : Option ℕ → (ℕ → List ℕ) → List ℕ
 atMember none k = []
 atMember (some at) k = k at
@@ -60,7 +68,7 @@ atMember (some at) k = k at
 unfoldable pub bindsAt : List ℕ → List ℕ → Outline → (ℕ → Bool) → Sort → List ℕ
 bindsAt ws widths o isBound (match k) = atMember (getElem? (o .inputs) k) (matchAt ws widths (o .variables) isBound)
 bindsAt ws widths o isBound (solve k) = atMember (getElem? (o .guard) k) (solveAt ws (o .variables) isBound)
-bindsAt ws widths o isBound (range n) = cond (ltb n (o .variables) && not (isBound n)) (n ∷ []) []
+bindsAt ws widths o isBound (range n) = unboundOf (o .variables) isBound n
 
 abbrev pub elementOr : Reading Element → ℕ → (Sort → Option ℕ) → Option ℕ
 elementOr (read e next) p k = k (e .sort)

@@ -2,9 +2,12 @@
 -- Rests on semantics/specs/Calls.
 use mathlib.Core.Path.{_≡_}
 use Prim.Native.Nat.{ℕ, _≤_}
-use mathlib.Core.List.{List}
-use lib.ListN.{length}
-use Rattle.semantics.specs.Reading.{read}
+use mathlib.Core.Bool.{cond}
+use mathlib.Core.List.{List, zip}
+use lib.Dec.{ltb}
+use lib.ListN.{length, take}
+use Rattle.semantics.specs.Refusal.{wordsLeft, unfitPlan}
+use Rattle.semantics.specs.Reading.{Reading, refused, then}
 use Rattle.semantics.specs.Net.{Net}
 use Rattle.semantics.specs.ReadNet.{readNet}
 use Rattle.semantics.specs.Plan.{plansFault, withPlans, acceptFront}
@@ -12,13 +15,28 @@ use Rattle.semantics.specs.Calls.{SplitEnd}
 use Rattle.expression.specs.declared.read.Skipped.{Skipped}
 use Rattle.expression.specs.declared.read.Skipped.the-variants.{Next, Refused}
 use Rattle.expression.specs.Skip.{forget, skipped}
-use Rattle.net.specs.declared.index.NetIndex.{NetIndex}
-use Rattle.net.specs.Skim.{changed, netOutline, skimNet}
-use Rattle.net.specs.Index.{netRead}
+use Rattle.net.specs.Skim.{changed, netOutline}
+use Rattle.net.specs.Index.{upTo}
+use Rattle.accept.specs.declared.plan.Fault.{Fault}
+use Rattle.accept.specs.declared.plan.Fault.the-variants.{At, Nothing}
+use Rattle.accept.specs.declared.accepted.Extent.{Extent}
 
--- an index with the refusal of its net's plans, where the index is that of a net that was read
-pub record IsPlanned (ws : List ℕ) (i r : NetIndex) : Type 0 where
-  pub planned : netRead i ≡ skimNet ws 0 → (next : ℕ) → i .end ≡ Next next → (net : Net) → readNet ws 0 ≡ read net next → netRead r ≡ changed netOutline (withPlans (plansFault (net .transitions)) net next)
+-- the net at the front of words: 1 to 3, then 4 where it ends before the word `least`, then 5
+unfoldable pub acceptTo : List ℕ → ℕ → Reading Net
+acceptTo ws least = then (readNet ws 0) (λ net next. cond (ltb next least) (refused wordsLeft next) (withPlans (plansFault (net .transitions)) net next))
+
+-- where such a net ends, told from where it ends as it is read and the first fault of its plans
+abbrev pub unlessUnfit : Fault → ℕ → Skipped
+unlessUnfit (At q) next = Refused unfitPlan q
+unlessUnfit Nothing next = Next next
+
+abbrev pub settle : ℕ → Skipped → Fault → Skipped
+settle least (Refused m p) f = Refused m p
+settle least (Next next) f = cond (ltb next least) (Refused wordsLeft next) (unlessUnfit f next)
+
+-- the positions of its places, their widths and the positions of its transitions are at the front of three tables
+pub record IsExtent (ws : List ℕ) (least : ℕ) (places widths transitions : List ℕ) (r : Extent) : Type 0 where
+  pub same : upTo (r .end) (record { places = zip (take (r .places) places) (take (r .places) widths); transitions = take (r .transitions) transitions }) ≡ changed netOutline (acceptTo ws least)
 
 abbrev pub InWords : List ℕ → Skipped → Type 0
 InWords ws (Next next) = next ≤ length ws

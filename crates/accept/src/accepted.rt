@@ -1,16 +1,21 @@
 // Nets that are accepted, as their index: 1 to 3 by the reader, then 4 where the net stands alone, then 5.
 use crate::plan::Fault;
-use crate::plan::at_most;
-use crate::plan::first_fault;
+use crate::plan::Reviewed;
+use crate::plan::read_plans;
 use expression::read::Skipped;
 use net::index::NetIndex;
-use net::index::read_net;
+use net::index::read_places;
+use net::index::refusal_of;
+use net::take::Taken;
+use net::take::take;
 ghost use mathlib.Core.Path.{_≡_};
+ghost use lib.ListN.{length};
 ghost use Rattle.semantics.specs.Plan.{acceptFront, acceptNet};
+ghost use Rattle.expression.specs.declared.read.Skipped.the-variants.{Refused};
+ghost use Rattle.expression.specs.Skip.{forget, skipped};
 ghost use Rattle.net.specs.Skim.{changed, netOutline};
 ghost use Rattle.net.specs.Index.{netRead};
-ghost use Rattle.accept.specs.Front.{IsPlanned};
-ghost use Rattle.expression.specs.declared.read.Skipped.the-variants.{Refused};
+ghost use Rattle.accept.specs.Front.{settle, acceptTo, IsExtent};
 
 // No net, but a refusal.
 pub fn refused_index(n: u32, p: usize) -> NetIndex
@@ -27,17 +32,93 @@ pub fn refused_index(n: u32, p: usize) -> NetIndex
     }
 }
 
-// An index, or 5 where a plan of its net is at fault.
-fn with_plans(words: &[u32], index: NetIndex) -> NetIndex
-    ensures { λ r. ⌜ IsPlanned (now (words .entry)) index r ⌝ }
+// Where a net ends that was read: 4 where it ends before the word `least`, then 5 where a plan is at fault.
+fn settled(plans: Reviewed, least: usize) -> Skipped
+    ensures { λ r. ⌜ r ≡ settle least (plans .end) (plans .fault) ⌝ }
 {
-    let places = at_most(64, index.places);
-    let transitions = at_most(64, index.transitions);
-    let widths = index.widths;
-    let begins = index.transitions_at;
-    match first_fault(words, &widths[..places], &begins[..transitions]) {
-        Fault::At(q) => refused_index(5, q),
-        Fault::Nothing => index,
+    let end = plans.end;
+    let fault = plans.fault;
+    match end {
+        Skipped::Refused(_, _) => end,
+        Skipped::Next(next) => {
+            if next < least {
+                return Skipped::Refused(4, next);
+            }
+            match fault {
+                Fault::At(q) => Skipped::Refused(5, q),
+                Fault::Nothing => end,
+            }
+        }
+    }
+}
+
+// Where a net ends or why it is refused, and how many places and transitions it has.
+pub struct Extent {
+    pub end: Skipped,
+    pub places: usize,
+    pub transitions: usize,
+}
+
+// No net, but why it cannot be read.
+fn unread(end: Skipped) -> Extent
+    ensures { λ r. ⌜ r .end ≡ end ⌝ }
+{
+    Extent {
+        end: end,
+        places: 0,
+        transitions: 0,
+    }
+}
+
+// The net at the front of words, refused with 4 where it ends before the word `least`; where its places begin, their widths and where its
+// transitions begin are written to the three tables.
+fn accept_into(
+    words: &[u32],
+    least: usize,
+    places_at: &mut [usize],
+    widths: &mut [usize],
+    transitions_at: &mut [usize],
+) -> Extent
+    requires { ⌜ length (now «places_at») ≡ 64 ⌝ }
+    requires { ⌜ length (now widths) ≡ 64 ⌝ }
+    requires { ⌜ length (now «transitions_at») ≡ 64 ⌝ }
+    ensures { λ r. ⌜ IsExtent (now (words .entry)) least (now («places_at» .exit)) (now (widths .exit)) (now («transitions_at» .exit)) r ⌝ }
+{
+    let head = take(words, 0, 1);
+    let Taken::Word(w) = head else {
+        return unread(refusal_of(head));
+    };
+    let places = (w / 256 % 256) as usize;
+    let transitions = (w % 256) as usize;
+    let end = read_places(words, places_at, widths, places, 1);
+    let Skipped::Next(from) = end else {
+        return unread(end);
+    };
+    let plans = read_plans(words, &widths[..places], transitions_at, transitions, from);
+    let end = settled(plans, least);
+    Extent {
+        end: end,
+        places: places,
+        transitions: transitions,
+    }
+}
+
+// The net at the front of words, refused with 4 where it ends before the word `least`.
+fn accept(words: &[u32], least: usize) -> NetIndex
+    ensures { λ r. ⌜ netRead r ≡ changed netOutline (acceptTo (now (words .entry)) least) ⌝ }
+{
+    let mut places = [0usize; 64];
+    let mut widths = [0usize; 64];
+    let mut transitions = [0usize; 64];
+    let net = accept_into(words, least, &mut places, &mut widths, &mut transitions);
+    let end = net.end;
+    NetIndex {
+        end: end,
+        places: net.places,
+        transitions: net.transitions,
+        places_at: places,
+        widths: widths,
+        transitions_at: transitions,
     }
 }
 
@@ -45,27 +126,23 @@ fn with_plans(words: &[u32], index: NetIndex) -> NetIndex
 pub fn accept_front(words: &[u32]) -> NetIndex
     ensures { λ r. ⌜ netRead r ≡ changed netOutline (acceptFront (now (words .entry))) ⌝ }
 {
-    let index = read_net(words);
-    let end = index.end;
-    match end {
-        Skipped::Refused(_, _) => index,
-        Skipped::Next(_) => with_plans(words, index),
-    }
+    accept(words, 0)
 }
 
 // The net that the words are.
 pub fn accept_net(words: &[u32]) -> NetIndex
     ensures { λ r. ⌜ netRead r ≡ changed netOutline (acceptNet (now (words .entry))) ⌝ }
 {
-    let index = read_net(words);
-    let end = index.end;
-    match end {
-        Skipped::Refused(_, _) => index,
-        Skipped::Next(next) => {
-            if next < words.len() {
-                return refused_index(4, next);
-            }
-            with_plans(words, index)
-        }
-    }
+    accept(words, words.len())
+}
+
+// Where the net at the front of words ends, or why it is refused, with 4 where it ends before the word `least`.
+pub fn accepted_end(words: &[u32], least: usize) -> Skipped
+    ensures { λ r. ⌜ skipped r ≡ forget (acceptTo (now (words .entry)) least) ⌝ }
+{
+    let mut places = [0usize; 64];
+    let mut widths = [0usize; 64];
+    let mut transitions = [0usize; 64];
+    let net = accept_into(words, least, &mut places, &mut widths, &mut transitions);
+    net.end
 }

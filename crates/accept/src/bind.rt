@@ -4,7 +4,7 @@ use expression::read::skip_expression;
 use net::take::Taken;
 use net::take::take;
 ghost use Prim.Native.Nat.{_≤_};
-ghost use Rattle.accept.specs.Fitness.{loneAt, loneFrom, matchAt};
+ghost use Rattle.accept.specs.Fitness.{unboundOf, loneAt, loneFrom, matchAt};
 ghost use Rattle.accept.specs.Plan.{marked, IsBound};
 
 // The variables bound so far, a mark for each, and whether one was bound just now.
@@ -13,25 +13,30 @@ pub struct Bound {
     pub marks: [bool; 8],
 }
 
+// Binds a variable that is below `variables` and not bound.
+pub fn bind_variable(variables: usize, b: Bound, n: usize) -> Bound
+    requires { ⌜ variables ≤ 8 ⌝ }
+    ensures { λ r. ⌜ IsBound b (unboundOf variables (marked (b .marks)) n) r ⌝ }
+{
+    if variables <= n {
+        return b;
+    }
+    let mut next = b;
+    if next.marks[n] {
+        return next;
+    }
+    next.marks[n] = true;
+    next.some = true;
+    next
+}
+
 // Binds the variable below `variables` that stands alone at a position, if it is not bound.
 pub fn bind_lone(words: &[u32], variables: usize, b: Bound, at: usize) -> Bound
     requires { ⌜ variables ≤ 8 ⌝ }
     ensures { λ r. ⌜ IsBound b (loneAt (now (words .entry)) variables (marked (b .marks)) at) r ⌝ }
 {
     match take(words, at, 8) {
-        Taken::Word(p) => {
-            let n = p as usize;
-            if variables <= n {
-                return b;
-            }
-            let mut next = b;
-            if next.marks[n] {
-                return next;
-            }
-            next.marks[n] = true;
-            next.some = true;
-            next
-        }
+        Taken::Word(p) => bind_variable(variables, b, p as usize),
         Taken::Refused(_, _) => b,
     }
 }

@@ -1,5 +1,5 @@
 // The call check: whether words are a net, and if not, why.
-use crate::accepted::accept_net;
+use crate::accepted::accepted_end;
 use expression::read::Skipped;
 use semantics::Verdict;
 ghost use mathlib.Core.Path.{_≡_};
@@ -9,9 +9,7 @@ ghost use Rattle.semantics.specs.Calls.{checkCall};
 pub fn check(net: &[u32]) -> Verdict
     ensures { λ r. ⌜ r ≡ checkCall (now (net .entry)) ⌝ }
 {
-    let index = accept_net(net);
-    let end = index.end;
-    match end {
+    match accepted_end(net, net.len()) {
         Skipped::Refused(n, p) => Verdict::Refused(n, p),
         Skipped::Next(_) => Verdict::Accepted,
     }

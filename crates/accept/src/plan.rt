@@ -1,73 +1,56 @@
 // Plans: the variables that an element binds, and where a plan is at fault.
 use crate::bind::Bound;
 use crate::bind::bind_match;
+use crate::bind::bind_variable;
 use crate::element::Element;
 use crate::element::Sort;
 use crate::element::element_of;
 use crate::solve::bind_solve;
 use expression::read::Skipped;
-use net::index::TransitionIndex;
-use net::index::read_transition;
+use net::index::read_parts;
 use net::take::Taken;
 use net::take::take;
 ghost use mathlib.Core.Path.{_≡_};
-ghost use mathlib.Core.Bool.{cond};
+ghost use mathlib.Core.Bool.{false, cond};
 ghost use mathlib.Core.Option.{none, some};
 ghost use Prim.Native.Nat.{_≤_, min};
+ghost use lib.ListN.{length};
 ghost use Rattle.semantics.specs.Plan.{everyBelow};
-ghost use Rattle.net.specs.Index.{outlined};
-ghost use Rattle.accept.specs.Fitness.{bindsAt, transitionFault, faultAmong};
-ghost use Rattle.accept.specs.Plan.{marked, fresh, IsBound, sorted, fault};
+ghost use Rattle.accept.specs.Fitness.{planParts, bindsAt, faultFrom, firstFault};
+ghost use Rattle.accept.specs.Plan.{marked, fresh, IsBound, sorted, fault, IsReviewed, AreReviewed};
 
-// The variables that an element of a transition binds.
+// The variables that an element of a transition binds, whose input arcs and conjuncts begin at these positions.
 fn newly_bound(
     words: &[u32],
     widths: &[usize],
-    t: TransitionIndex,
+    variables: usize,
+    inputs: &[usize],
+    conjuncts: &[usize],
     marks: [bool; 8],
     e: Element,
 ) -> Bound
-    requires { ⌜ t .variables ≤ 8 ⌝ }
-    ensures { λ r. ⌜ IsBound (fresh marks) (bindsAt (now (words .entry)) (now (widths .entry)) (outlined t) (marked marks) (sorted (e .sort))) r ⌝ }
+    requires { ⌜ variables ≤ 8 ⌝ }
+    ensures { λ r. ⌜ IsBound (fresh marks) (bindsAt (now (words .entry)) (now (widths .entry)) (planParts variables (now (inputs .entry)) (now (conjuncts .entry))) (marked marks) (sorted (e .sort))) r ⌝ }
 {
-    let variables = t.variables;
     let sort = e.sort;
-    let mut b = Bound {
+    let b = Bound {
         some: false,
         marks: marks,
     };
     match sort {
         Sort::Match(k) => {
-            if t.inputs <= k {
+            if inputs.len() <= k {
                 return b;
             }
-            if 8 <= k {
-                return b;
-            }
-            let at = t.inputs_at[k];
-            bind_match(words, widths, variables, b, at)
+            bind_match(words, widths, variables, b, inputs[k])
         }
         Sort::Solve(k) => {
-            if t.conjuncts <= k {
+            if conjuncts.len() <= k {
                 return b;
             }
-            if 8 <= k {
-                return b;
-            }
-            let at = t.conjuncts_at[k];
-            bind_solve(words, variables, b, at)
+            bind_solve(words, variables, b, conjuncts[k])
         }
-        Sort::Range(n) => {
-            if variables <= n {
-                return b;
-            }
-            if b.marks[n] {
-                return b;
-            }
-            b.marks[n] = true;
-            b.some = true;
-            b
-        }
+        Sort::Range(n) => bind_variable(variables, b, n),
     }
 }
 
@@ -99,48 +82,119 @@ pub fn at_most(most: usize, n: usize) -> usize
     if n < most { n } else { most }
 }
 
-// The fault of the plan of the transition at a position.
-fn plan_fault(words: &[u32], widths: &[usize], at: usize) -> Fault
-    ensures { λ r. ⌜ fault r ≡ transitionFault (now (words .entry)) (now (widths .entry)) at ⌝ }
+// The fault of a plan whose elements begin at these positions, as do the transition's input arcs and conjuncts; the transition is at `at`.
+fn plan_fault(
+    words: &[u32],
+    widths: &[usize],
+    variables: usize,
+    inputs: &[usize],
+    conjuncts: &[usize],
+    elements: &[usize],
+    at: usize,
+) -> Fault
+    requires { ⌜ variables ≤ 8 ⌝ }
+    ensures { λ r. ⌜ fault r ≡ faultFrom (now (words .entry)) (now (widths .entry)) (planParts variables (now (inputs .entry)) (now (conjuncts .entry))) at (λ k. false) (now (elements .entry)) ⌝ }
 {
-    let t = read_transition(words, widths, at);
-    let end = t.end;
-    let Skipped::Next(_) = end else {
-        return Fault::Nothing;
-    };
-    let elements = at_most(8, t.elements);
     let mut marks = [false; 8];
     let mut i = 0;
-    while i < elements {
-        let p = t.elements_at[i];
+    while i < elements.len() {
+        let p = elements[i];
         let head = take(words, p, 10);
         let Taken::Word(w) = head else {
             return Fault::At(p);
         };
-        let b = newly_bound(words, widths, t, marks, element_of(w));
+        let e = element_of(w);
+        let b = newly_bound(words, widths, variables, inputs, conjuncts, marks, e);
         if !b.some {
             return Fault::At(p);
         }
         marks = b.marks;
         i += 1;
     }
-    unbound(t.variables, marks, at)
+    unbound(variables, marks, at)
 }
 
-// The first fault of the plans of the transitions at these positions.
-pub fn first_fault(words: &[u32], widths: &[usize], transitions: &[usize]) -> Fault
-    ensures { λ r. ⌜ fault r ≡ faultAmong (now (words .entry)) (now (widths .entry)) (now (transitions .entry)) ⌝ }
+// What was read of transitions: where they end or why they cannot be read, and the first fault of their plans.
+pub struct Reviewed {
+    pub end: Skipped,
+    pub fault: Fault,
+}
+
+// The transition at a position, with the fault of its plan.
+fn read_plan(words: &[u32], widths: &[usize], at: usize) -> Reviewed
+    ensures { λ r. ⌜ IsReviewed (now (words .entry)) (now (widths .entry)) at r ⌝ }
 {
-    let mut i = 0;
-    while i < transitions.len() {
-        match plan_fault(words, widths, transitions[i]) {
-            Fault::At(p) => {
-                return Fault::At(p);
-            }
-            Fault::Nothing => {
-                i += 1;
-            }
-        }
+    let mut ins = [0usize; 8];
+    let mut outs = [0usize; 8];
+    let mut guard = [0usize; 8];
+    let mut plan = [0usize; 8];
+    let t = read_parts(
+        words,
+        widths,
+        &mut ins,
+        &mut outs,
+        &mut guard,
+        &mut plan,
+        at,
+    );
+    let end = t.end;
+    let Skipped::Next(_) = end else {
+        return Reviewed {
+            end: end,
+            fault: Fault::Nothing,
+        };
+    };
+    let inputs = t.inputs;
+    let conjuncts = t.conjuncts;
+    let elements = t.elements;
+    let ins = &ins[..inputs];
+    let guard = &guard[..conjuncts];
+    let plan = &plan[..elements];
+    let fault = plan_fault(words, widths, t.variables, ins, guard, plan, at);
+    Reviewed {
+        end: end,
+        fault: fault,
     }
-    Fault::Nothing
+}
+
+// The first of two faults.
+fn first_of(a: Fault, b: Fault) -> Fault
+    ensures { λ r. ⌜ fault r ≡ firstFault (fault a) (fault b) ⌝ }
+{
+    match a {
+        Fault::At(p) => Fault::At(p),
+        Fault::Nothing => b,
+    }
+}
+
+// n transitions, with the first fault of their plans; where each begins is written to the front of `begins`.
+pub fn read_plans(
+    words: &[u32],
+    widths: &[usize],
+    begins: &mut [usize],
+    n: usize,
+    at: usize,
+) -> Reviewed
+    requires { ⌜ n ≤ length (now begins) ⌝ }
+    ensures { λ r. ⌜ AreReviewed (now (words .entry)) (now (widths .entry)) n at (now (begins .exit)) r ⌝ }
+{
+    let mut fault = Fault::Nothing;
+    let mut i = 0;
+    let mut next = at;
+    while i < n {
+        begins[i] = next;
+        let t = read_plan(words, widths, next);
+        let end = t.end;
+        let Skipped::Next(p) = end else {
+            return t;
+        };
+        let own = t.fault;
+        fault = first_of(fault, own);
+        next = p;
+        i += 1;
+    }
+    Reviewed {
+        end: Skipped::Next(next),
+        fault: fault,
+    }
 }

@@ -1,5 +1,5 @@
 // The call split: a net at the front of a slice, and the words after it.
-use crate::accepted::accept_front;
+use crate::accepted::accepted_end;
 use expression::read::Skipped;
 ghost use mathlib.Core.Path.{_≡_};
 ghost use Rattle.semantics.specs.Calls.{splitCall};
@@ -9,8 +9,7 @@ ghost use Rattle.accept.specs.Front.{IsFront, splitInto};
 fn front(words: &[u32]) -> Skipped
     ensures { λ r. ⌜ IsFront (now (words .entry)) r ⌝ }
 {
-    let index = accept_front(words);
-    index.end
+    accepted_end(words, 0)
 }
 
 // The words after the net at the front, or none where it is refused; the refusal and its position, 0 and 0 where there is none.

@@ -28,7 +28,7 @@ module _ (R : Reader (Unit {0})) where
   unfolding starts
   starts-refused k at m q e = rw e
 
-forget-changed : {A B : Type 0} (f : A → B) (x : Reading A) → forget (changed f x) ≡ forget x
+pub forget-changed : {A B : Type 0} (f : A → B) (x : Reading A) → forget (changed f x) ≡ forget x
 forget-changed f (read a next) = refl
 forget-changed f (refused n p) = refl
 

@@ -12,13 +12,13 @@ use lib.ListN.{length, take, set}
 use lib.Seq.{length-take-le}
 use Rattle.semantics.specs.Word.{only}
 use Rattle.semantics.specs.Reading.{Reading, read, refused, then}
-use Rattle.semantics.proofs.Tests.{false-true, and-right}
+use Rattle.semantics.proofs.Tests.{false-true}
 use Rattle.expression.specs.declared.read.Skipped.{Skipped}
 use Rattle.expression.specs.declared.read.Skipped.the-variants.{Next, Refused}
-use Rattle.expression.specs.Skip.{forget}
+use Rattle.expression.specs.Skip.{forget, skipped}
 use Rattle.net.specs.declared.take.Taken.{Taken}
 use Rattle.net.specs.declared.take.Taken.the-variants.{Word, Refused as TakeRefused}
-use Rattle.net.specs.Skim.{changed, fitsKind, starts, skimOne, skimPlace, skimPlaces, skimTransitions, NetOutline, skimNet}
+use Rattle.net.specs.Skim.{changed, fitsKind, starts, skimRange, skimOne, skimPlace, skimPlaces, skimTransitions, NetOutline, skimNet}
 use Rattle.net.specs.Index.{Takes, IsTaken, upTo}
 use Rattle.net.proofs.Structures.{word-refused, word-taken, next-fits}
 use Rattle.net.proofs.Loops.{Gathered, gathered-start, gathered-turn, gathered-refused, gathered-end, take-set}
@@ -32,16 +32,11 @@ module _ (ws : List ℕ) (at : ℕ) {t : Taken} (w : IsTaken ws at 2 t) where
   place-refused e = rw (word-refused w e)
 
   module _ {p : ℕ} (e : t ≡ Word p) where
-    -- so few ranges that their positions are kept
-    pub few-ranges : p ≤ 8
-    unfolding fitsKind
-    few-ranges = let h : p ≤ 4 = leb-true p 4 (and-right (leb 1 p) (leb p 4) (subst (Takes ws at 2) e (w .exists) .fits)) in omega arith
-
-    pub place-ranges : (end : Skipped) (rs : List ℕ) → upTo end rs ≡ starts p (skimOne ws [] 0 3) (at + 1) → upTo end p ≡ skimPlace ws at
-    unfolding skimPlace
-    place-ranges end rs a = rw (word-taken w e, ← a) (by end)
+    pub place-ranges : (end : Skipped) → skipped end ≡ forget (starts p (skimRange ws) (at + 1)) → upTo end p ≡ skimPlace ws at
+    unfolding skimPlace skimOne
+    place-ranges end a = rw (word-taken w e, ← a) (by end)
       where
-        by : (end : Skipped) → upTo end p ≡ then (forget (upTo end rs)) (λ u next. read p next)
+        by : (end : Skipped) → upTo end p ≡ then (skipped end) (λ u next. read p next)
         by (Next n) = refl
         by (Refused m q) = refl
 
@@ -147,4 +142,4 @@ module _ (ws : List ℕ) (at : ℕ) {t : Taken} (w : IsTaken ws at 1 t) where
         then-gives last ts (λ ts. record { places = zip (take (p / 256 % 256) begins) (take (p / 256 % 256) widths); transitions = ts }) b
         ∙ sym (transitions-left (zip (take (p / 256 % 256) begins) (take (p / 256 % 256) widths)) a d ∙ rw v)
 
-pub ruleset netting = (needs, next-fits, place-refused, few-ranges, place-ranges, placed-end, placed-goes, placed-stops, net-refused, few-places, few-transitions, net-stops)
+pub ruleset netting = (needs, next-fits, place-refused, place-ranges, placed-end, placed-goes, placed-stops)

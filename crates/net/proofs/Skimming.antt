@@ -1,18 +1,18 @@
 -- The readings of specs/Skim are those of semantics with the data left out: each reader's law follows the reader, step by step.
 use mathlib.Core.Path.{_≡_, refl, sym, ap, _∙_, fun-ext}
 use Prim.Native.Nat.{ℕ, zero, suc}
-use mathlib.Core.Bool.{Bool, true, false, cond}
 use mathlib.Core.List.{List, [], _∷_, map}
 use lib.Dec.{ltb}
 use lib.ListN.{length, getD, length-map}
 use Rattle.semantics.specs.Reading.{Reading, read, refused, then, Reader, several, word}
-use Rattle.semantics.specs.Word.{bits, only, Range}
-use Rattle.semantics.specs.Net.{Place, Arc, Conjunct, Element, Transition, Net, rangesAt}
+use Rattle.semantics.specs.Word.{bits, only}
+use Rattle.semantics.specs.Net.{Place, Arc, Conjunct, Element, Transition, rangesAt}
 use Rattle.semantics.specs.ReadNet.{readExpression, readRange, readPlace, readArc, readConjunct, readElement, readTransition, readNet}
 use Rattle.semantics.proofs.Tests.{false-true}
 use Rattle.semantics.proofs.Readers.{Gives, gives, given, then-gives, as-read}
 use Rattle.expression.specs.Skip.{forget}
-use Rattle.net.specs.Skim.{changed, fitsKind, starts, skimExpression, skimArc, skimConjunct, skimOne, Outline, outline, skimTransition, width, skimPlace, skimPlaces, NetOutline, netOutline, skimNet}
+use Rattle.net.specs.Skim.{changed, fitsKind, starts, skimExpression, skimArc, skimConjunct, skimOne, outline, skimTransition, width, skimPlace, skimPlaces, NetOutline, netOutline, skimNet}
+use Rattle.net.proofs.Loops.{forget-changed}
 
 -- ── Steps ──
 
@@ -34,10 +34,6 @@ forget-gives (refused n p) f = refl
 forget-forget : {A : Type 0} (r : Reading A) → forget (forget r) ≡ forget r
 forget-forget (read a next) = refl
 forget-forget (refused n p) = refl
-
-forget-changed : {A B : Type 0} (f : A → B) (r : Reading A) → forget (changed f r) ≡ forget r
-forget-changed f (read a next) = refl
-forget-changed f (refused n p) = refl
 
 -- the next step looks at a part of what is read
 changed-then : {A B C D : Type 0} (f : A → B) (g : C → D) (r : Reading A) (k : A → ℕ → Reading C) (k′ : B → ℕ → Reading D) → ((a : A) (n : ℕ) → changed g (k a n) ≡ k′ (f a) n) → changed g (then r k) ≡ then (changed f r) k′

@@ -19,8 +19,9 @@ use Rattle.expression.specs.declared.read.Skipped.the-variants.{Next, Refused}
 use Rattle.expression.specs.Skip.{forget, skipped}
 use Rattle.net.specs.declared.take.Taken.{Taken}
 use Rattle.net.specs.declared.take.Taken.the-variants.{Word, Refused as TakeRefused}
-use Rattle.net.specs.Skim.{fitsKind, starts, skimExpression, skimArc, skimConjunct, skimOne}
+use Rattle.net.specs.Skim.{fitsKind, starts, skimRange, skimExpression, skimArc, skimConjunct, skimOne}
 use Rattle.net.specs.Index.{taken, Takes, IsTaken}
+use Rattle.net.proofs.Loops.{Ahead, ahead-turn, ahead-refused}
 
 -- a word that passes two tests, one after the other
 pub stricter : (ws : List ℕ) (k : ℕ) (weak ok : ℕ → Bool) → ((p : ℕ) → weak p ≡ true) → (at : ℕ) → word ws k ok at ≡ then (word ws k weak at) (λ p next. demand (ok p) at (read p next))
@@ -47,6 +48,15 @@ module _ {ws : List ℕ} {at k : ℕ} {t : Taken} (w : IsTaken ws at k t) where
   next-fits e =
       let h : at < mostWords = subst (Takes ws at k) e (w .exists) .in-limit in
       record { fits = omega arith }
+
+-- ── Ranges, one after the other ──
+
+module _ {ws : List ℕ} {n at i next : ℕ} (a : Ahead (skimRange ws) n at i next) (h : i < n) {t : Taken} (w : IsTaken ws next 3 t) where
+  pub ranges-go : {p : ℕ} → t ≡ Word p → Ahead (skimRange ws) n at (i + 1) (next + 1)
+  ranges-go e = ahead-turn a (next + 1) h (ap forget (word-taken w e))
+
+  pub ranges-stop : {m q : ℕ} → t ≡ TakeRefused m q → refused m q ≡ forget (starts n (skimRange ws) at)
+  ranges-stop {m} {q} e = ahead-refused a m q h (ap forget (word-refused w e))
 
 -- ── Arcs ──
 
@@ -108,4 +118,4 @@ module _ (ws widths : List ℕ) (v k at : ℕ) where
     unfolding skimOne
     one-taken e = rw (ne-eqb k 5 f, ne-eqb k 6 g, word-taken w e)
 
-pub ruleset passing = (needs, next-fits, arc-refused, arc-nowhere, arc-coefficient, arc-components, conjunct-refused, conjunct-left, conjunct-right, one-arc, one-conjunct, one-refused, one-taken)
+pub ruleset passing = (needs, next-fits, ranges-go, ranges-stop, arc-refused, arc-nowhere, arc-coefficient, arc-components, conjunct-refused, conjunct-left, conjunct-right, one-arc, one-conjunct, one-refused, one-taken)

@@ -1,5 +1,5 @@
 -- The rules of reading a transition: its word, and then its parts one after the other. What is still to be read after each part is a
--- reading of its own, so that each step of the code is one equation.
+-- reading of its own, so that each step of the code is one equation; a refusal is handed on from part to part.
 use mathlib.Core.Path.{_≡_, refl, sym, ap, _∙_, subst}
 use Prim.Native.Nat.{ℕ, _+_, _/_, _%_, _≤_}
 use mathlib.Core.Bool.{Bool, true, false, _&&_}
@@ -16,18 +16,25 @@ use Rattle.expression.specs.declared.read.Skipped.the-variants.{Next, Refused}
 use Rattle.expression.specs.Skip.{forget, skipped}
 use Rattle.net.specs.declared.take.Taken.{Taken}
 use Rattle.net.specs.declared.take.Taken.the-variants.{Word, Refused as TakeRefused}
-use Rattle.net.specs.Skim.{fitsKind, starts, skimOne, Outline, skimTransition}
-use Rattle.net.specs.Index.{Takes, IsTaken, refusalOf, upTo}
+use Rattle.net.specs.declared.index.Parts.{Parts}
+use Rattle.net.specs.Skim.{fitsKind, starts, skimRange, skimOne, Outline, skimTransition}
+use Rattle.net.specs.Index.{Takes, IsTaken, refusalOf, upTo, noParts, AreParts}
 use Rattle.net.proofs.Structures.{word-refused, word-taken, next-fits}
 
 -- ── Several structures of a reading, by the answer of the code ──
 
-module _ {A B : Type 0} {end : Skipped} (a : A) (k : A → ℕ → Reading B) where
-  then-next : {x : Reading A} {n : ℕ} → upTo end a ≡ x → end ≡ Next n → then x k ≡ k a n
-  then-next s d = rw (← s, d)
-
-  then-stops : {x : Reading A} {m q : ℕ} → upTo end a ≡ x → end ≡ Refused m q → then x k ≡ refused m q
-  then-stops s d = rw (← s, d)
+-- what follows structures that stand at the end of others follows their own end
+chained : {A B : Type 0} (from end : Skipped) (a : A) (x : ℕ → Reading A) (k : A → ℕ → Reading B) → upTo end a ≡ then (skipped from) (λ u n. x n) → then (skipped from) (λ u n. then (x n) k) ≡ then (skipped end) (λ u n. k a n)
+chained (Next n) end a x k e = rw (← e) (by end)
+  where
+    by : (end : Skipped) → then (upTo end a) k ≡ then (skipped end) (λ u n. k a n)
+    by (Next m) = refl
+    by (Refused m q) = refl
+chained (Refused m q) end a x k e = by end e
+  where
+    by : (end : Skipped) → upTo end a ≡ refused m q → refused m q ≡ then (skipped end) (λ u n. k a n)
+    by (Next n) h = false-true (cc)
+    by (Refused i p) h = let u : i ≡ m = cc in let v : p ≡ q = cc in rw (u, v)
 
 pub then-gives : {A B : Type 0} (end : Skipped) (a : A) (f : A → B) {x : Reading A} → upTo end a ≡ x → upTo end (f a) ≡ then x (λ a n. read (f a) n)
 then-gives {A} {B} end a f e = by end ∙ ap (λ (x : Reading A). then x (λ a n. read (f a) n)) e
@@ -57,11 +64,11 @@ module _ (ws widths : List ℕ) (w : ℕ) where
   inputsLeft at = then (starts (w / 16 % 16) (skimOne ws widths (w % 16) 5) at) outputsLeft
 
   unfoldable rangesLeft : Reader Outline
-  rangesLeft at = then (forget (starts (w % 16) (skimOne ws widths (w % 16) 3) at)) (λ u next. inputsLeft next)
+  rangesLeft at = then (forget (starts (w % 16) (skimRange ws) at)) (λ u next. inputsLeft next)
 
 -- ── The word ──
 
-pub five-of : (a b c d e f : Bool) → (a && b && c && d && e && f) ≡ true → (b ≡ true) × (c ≡ true) × (d ≡ true) × (e ≡ true) × (f ≡ true)
+five-of : (a b c d e f : Bool) → (a && b && c && d && e && f) ≡ true → (b ≡ true) × (c ≡ true) × (d ≡ true) × (e ≡ true) × (f ≡ true)
 five-of false b c d e f h = false-true h
 five-of true false c d e f h = false-true h
 five-of true true false d e f h = false-true h
@@ -74,20 +81,10 @@ module _ {ws : List ℕ} {at : ℕ} {t : Taken} (w : IsTaken ws at 4 t) {p : ℕ
   unfolding fitsKind
   numbers = five-of (only 20 p) (leb (p / 1 % 16) 8) (leb (p / 16 % 16) 8) (leb (p / 256 % 16) 8) (leb (p / 4096 % 16) 8) (leb (p / 65536 % 16) 8) (subst (Takes ws at 4) e (w .exists) .fits)
 
-  pub few-variables : p % 16 ≤ 8
-  few-variables = let h : p / 1 % 16 ≤ 8 = leb-true (p / 1 % 16) 8 (numbers .0) in omega arith
-
-  pub few-inputs : p / 16 % 16 ≤ 8
-  few-inputs = leb-true (p / 16 % 16) 8 (numbers .1)
-
-  pub few-outputs : p / 256 % 16 ≤ 8
-  few-outputs = leb-true (p / 256 % 16) 8 (numbers .2)
-
-  pub few-conjuncts : p / 4096 % 16 ≤ 8
-  few-conjuncts = leb-true (p / 4096 % 16) 8 (numbers .3)
-
-  pub few-elements : p / 65536 % 16 ≤ 8
-  few-elements = leb-true (p / 65536 % 16) 8 (numbers .4)
+  pub few-parts : (p % 16 ≤ 8) × (p / 16 % 16 ≤ 8) × (p / 256 % 16 ≤ 8) × (p / 4096 % 16 ≤ 8) × (p / 65536 % 16 ≤ 8)
+  few-parts =
+      let h : p / 1 % 16 ≤ 8 = leb-true (p / 1 % 16) 8 (numbers .0) in
+      (omega arith, leb-true (p / 16 % 16) 8 (numbers .1), leb-true (p / 256 % 16) 8 (numbers .2), leb-true (p / 4096 % 16) 8 (numbers .3), leb-true (p / 65536 % 16) 8 (numbers .4))
 
 -- ── Each return ──
 
@@ -96,57 +93,32 @@ pub upTo-refused : {A : Type 0} {x : Reading A} {end : Skipped} (a : A) {m q : �
 upTo-refused a e d = rw (e, d)
 
 module _ (ws widths : List ℕ) (at : ℕ) {t : Taken} (w : IsTaken ws at 4 t) where
-  pub transition-refused : {m s : ℕ} {f end : Skipped} (o : Outline) → t ≡ TakeRefused m s → f ≡ refusalOf t → end ≡ f → upTo end o ≡ skimTransition ws widths at
+  transition-refused : {m s : ℕ} {f end : Skipped} (o : Outline) → t ≡ TakeRefused m s → f ≡ refusalOf t → end ≡ f → upTo end o ≡ skimTransition ws widths at
   unfolding skimTransition
   transition-refused o e f d = upTo-refused o (rw (word-refused w e)) (d ∙ f ∙ ap refusalOf e)
 
+  pub parts-refused : (ins outs guard plan : List ℕ) {m s : ℕ} {f : Skipped} {r : Parts} → t ≡ TakeRefused m s → f ≡ refusalOf t → r ≡ noParts f → AreParts ws widths at ins outs guard plan r
+  parts-refused ins outs guard plan e f d = rw d (record { same = transition-refused _ e f refl; few-variables = omega arith; few-inputs = omega arith; few-conjuncts = omega arith; few-elements = omega arith })
+
   module _ {p : ℕ} (e : t ≡ Word p) where
     ranges-left : skimTransition ws widths at ≡ rangesLeft ws widths p (at + 1)
-    unfolding skimTransition rangesLeft inputsLeft outputsLeft guardLeft planLeft
+    unfolding skimTransition skimOne rangesLeft inputsLeft outputsLeft guardLeft planLeft
     ranges-left = let h : p / 1 ≡ p = omega arith in rw (word-taken w e, h)
 
-    module _ {ranges : Skipped} (rs : List ℕ) (a : upTo ranges rs ≡ starts (p % 16) (skimOne ws widths (p % 16) 3) (at + 1)) where
-      pub ranges-refused : {m q : ℕ} {end : Skipped} (o : Outline) → ranges ≡ Refused m q → end ≡ ranges → upTo end o ≡ skimTransition ws widths at
-      unfolding rangesLeft
-      ranges-refused o d f = upTo-refused o (rw (ranges-left, ← a, d)) (f ∙ d)
+    pub parts-end : (ranges ins outs guard end : Skipped) (is os gs es : List ℕ) → skipped ranges ≡ forget (starts (p % 16) (skimRange ws) (at + 1)) → upTo ins is ≡ then (skipped ranges) (λ u n. starts (p / 16 % 16) (skimOne ws widths (p % 16) 5) n) → upTo outs os ≡ then (skipped ins) (λ u n. starts (p / 256 % 16) (skimOne ws widths (p % 16) 5) n) → upTo guard gs ≡ then (skipped outs) (λ u n. starts (p / 4096 % 16) (skimOne ws widths (p % 16) 6) n) → upTo end es ≡ then (skipped guard) (λ u n. starts (p / 65536 % 16) (skimOne ws widths (p % 16) 0xA) n) → upTo end (record { variables = p % 16; inputs = is; outputs = os; guard = gs; plan = es }) ≡ skimTransition ws widths at
+    unfolding rangesLeft inputsLeft outputsLeft guardLeft planLeft
+    parts-end ranges ins outs guard end is os gs es a b c d f =
+        sym
+        (ranges-left
+        ∙ ap (λ (x : Reading (Unit {0})). then {B = Outline} x (λ u n. inputsLeft ws widths p n)) (sym a)
+        ∙ chained ranges ins is (starts (p / 16 % 16) (skimOne ws widths (p % 16) 5)) (outputsLeft ws widths p) b
+        ∙ chained ins outs os (starts (p / 256 % 16) (skimOne ws widths (p % 16) 5)) (guardLeft ws widths p is) c
+        ∙ chained outs guard gs (starts (p / 4096 % 16) (skimOne ws widths (p % 16) 6)) (planLeft ws widths p is os) d
+        ∙ chained {B = Outline} guard end es (starts (p / 65536 % 16) (skimOne ws widths (p % 16) 0xA)) (λ es n. read (record { variables = p % 16; inputs = is; outputs = os; guard = gs; plan = es }) n) f
+        ∙ by end)
+      where
+        by : (end : Skipped) → then {B = Outline} (skipped end) (λ u n. read (record { variables = p % 16; inputs = is; outputs = os; guard = gs; plan = es }) n) ≡ upTo end (record { variables = p % 16; inputs = is; outputs = os; guard = gs; plan = es })
+        by (Next n) = refl
+        by (Refused m q) = refl
 
-      module _ {n₁ : ℕ} (d₁ : ranges ≡ Next n₁) where
-        inputs-left : skimTransition ws widths at ≡ inputsLeft ws widths p n₁
-        unfolding rangesLeft
-        inputs-left = rw (ranges-left, ← a, d₁)
-
-        module _ {ins : Skipped} (is : List ℕ) (b₁ : upTo ins is ≡ starts (p / 16 % 16) (skimOne ws widths (p % 16) 5) n₁) where
-          pub inputs-refused : {m q : ℕ} {end : Skipped} (o : Outline) → ins ≡ Refused m q → end ≡ ins → upTo end o ≡ skimTransition ws widths at
-          unfolding inputsLeft
-          inputs-refused o d f = upTo-refused o (inputs-left ∙ then-stops is _ b₁ d) (f ∙ d)
-
-          module _ {n₂ : ℕ} (d₂ : ins ≡ Next n₂) where
-            outputs-left : skimTransition ws widths at ≡ outputsLeft ws widths p is n₂
-            unfolding inputsLeft
-            outputs-left = inputs-left ∙ then-next is _ b₁ d₂
-
-            module _ {outs : Skipped} (os : List ℕ) (b₂ : upTo outs os ≡ starts (p / 256 % 16) (skimOne ws widths (p % 16) 5) n₂) where
-              pub outputs-refused : {m q : ℕ} {end : Skipped} (o : Outline) → outs ≡ Refused m q → end ≡ outs → upTo end o ≡ skimTransition ws widths at
-              unfolding outputsLeft
-              outputs-refused o d f = upTo-refused o (outputs-left ∙ then-stops os _ b₂ d) (f ∙ d)
-
-              module _ {n₃ : ℕ} (d₃ : outs ≡ Next n₃) where
-                guard-left : skimTransition ws widths at ≡ guardLeft ws widths p is os n₃
-                unfolding outputsLeft
-                guard-left = outputs-left ∙ then-next os _ b₂ d₃
-
-                module _ {guard : Skipped} (gs : List ℕ) (b₃ : upTo guard gs ≡ starts (p / 4096 % 16) (skimOne ws widths (p % 16) 6) n₃) where
-                  pub guard-refused : {m q : ℕ} {end : Skipped} (o : Outline) → guard ≡ Refused m q → end ≡ guard → upTo end o ≡ skimTransition ws widths at
-                  unfolding guardLeft
-                  guard-refused o d f = upTo-refused o (guard-left ∙ then-stops gs _ b₃ d) (f ∙ d)
-
-                  module _ {n₄ : ℕ} (d₄ : guard ≡ Next n₄) where
-                    plan-left : skimTransition ws widths at ≡ planLeft ws widths p is os gs n₄
-                    unfolding guardLeft
-                    plan-left = guard-left ∙ then-next gs _ b₃ d₄
-
-                    pub plan-ends : (plan : Skipped) (es : List ℕ) → upTo plan es ≡ starts (p / 65536 % 16) (skimOne ws widths (p % 16) 0xA) n₄ → upTo plan (record { variables = p % 16; inputs = is; outputs = os; guard = gs; plan = es }) ≡ skimTransition ws widths at
-                    unfolding planLeft
-                    plan-ends plan es b = then-gives plan es (λ es. record { variables = p % 16; inputs = is; outputs = os; guard = gs; plan = es }) b ∙ sym plan-left
-
-pub ruleset transitions = (needs, next-fits, few-variables, few-inputs, few-outputs, few-conjuncts, few-elements, transition-refused, ranges-refused, inputs-refused, outputs-refused, guard-refused, plan-ends)
+pub ruleset transitions = (needs, next-fits, parts-refused)

@@ -3,7 +3,7 @@
 use mathlib.Core.Path.{_≡_}
 use mathlib.Core.Bool.{true}
 use mathlib.Core.List.{List, zip}
-use Prim.Native.Nat.{ℕ, _+_, _<_}
+use Prim.Native.Nat.{ℕ, _+_, _≤_, _<_}
 use lib.ListN.{length, take}
 use Rattle.semantics.specs.Reading.{Reading, read, refused, word}
 use Rattle.semantics.specs.Refusal.{mostWords}
@@ -11,13 +11,11 @@ use Rattle.net.specs.declared.take.Taken.{Taken}
 use Rattle.net.specs.declared.take.Taken.the-variants.{Word, Refused as TakeRefused}
 use Rattle.expression.specs.declared.read.Skipped.{Skipped}
 use Rattle.expression.specs.declared.read.Skipped.the-variants.{Next, Refused}
-use Rattle.net.specs.declared.skim.Positions.{Positions}
 use Rattle.net.specs.declared.index.TransitionIndex.{TransitionIndex}
+use Rattle.net.specs.declared.index.Parts.{Parts}
 use Rattle.net.specs.declared.index.PlaceIndex.{PlaceIndex}
-use Rattle.net.specs.declared.index.Places.{Places}
-use Rattle.net.specs.declared.index.Starts.{Starts}
 use Rattle.net.specs.declared.index.NetIndex.{NetIndex}
-use Rattle.net.specs.Skim.{fitsKind, Outline, NetOutline}
+use Rattle.net.specs.Skim.{fitsKind, Outline, skimTransition, NetOutline}
 
 -- the word taken at a position
 abbrev pub taken : ℕ → Taken → Reading ℕ
@@ -50,10 +48,6 @@ abbrev pub upTo : {A : Type 0} → Skipped → A → Reading A
 upTo (Next next) a = read a next
 upTo (Refused n p) a = refused n p
 
--- where n structures begin
-abbrev pub positions : ℕ → Positions → Reading (List ℕ)
-positions n r = upTo (r .end) (take n (r .at))
-
 abbrev pub outlined : TransitionIndex → Outline
 outlined r =
     record {
@@ -67,15 +61,19 @@ outlined r =
 abbrev pub transitionRead : TransitionIndex → Reading Outline
 transitionRead r = upTo (r .end) (outlined r)
 
+abbrev pub noParts : Skipped → Parts
+noParts end = record { end = end; variables = 0; inputs = 0; outputs = 0; conjuncts = 0; elements = 0 }
+
+-- the parts of the transition at a position begin where the fronts of four tables say, at most eight of each
+pub record AreParts (ws widths : List ℕ) (at : ℕ) (ins outs guard plan : List ℕ) (r : Parts) : Type 0 where
+  pub same : upTo (r .end) (record { variables = r .variables; inputs = take (r .inputs) ins; outputs = take (r .outputs) outs; guard = take (r .conjuncts) guard; plan = take (r .elements) plan }) ≡ skimTransition ws widths at
+  pub few-variables : r .variables ≤ 8
+  pub few-inputs : r .inputs ≤ 8
+  pub few-conjuncts : r .conjuncts ≤ 8
+  pub few-elements : r .elements ≤ 8
+
 abbrev pub placeRead : PlaceIndex → Reading ℕ
 placeRead r = upTo (r .end) (r .width)
-
--- where n places begin, and their widths
-abbrev pub placesRead : ℕ → Places → Reading (List (ℕ × ℕ))
-placesRead n r = upTo (r .end) (zip (take n (r .at)) (take n (r .widths)))
-
-abbrev pub startsRead : ℕ → Starts → Reading (List ℕ)
-startsRead n r = upTo (r .end) (take n (r .at))
 
 -- the positions that the index of a net has
 abbrev pub outlinedNet : NetIndex → NetOutline

@@ -36,6 +36,9 @@ unfoldable pub starts : ℕ → Reader (Unit {0}) → Reader (List ℕ)
 starts zero r = give []
 starts (suc n) r = λ at. then (r at) (λ u next. then (starts n r next) (λ ps end. read (at ∷ ps) end))
 
+abbrev pub skimRange : List ℕ → Reader (Unit {0})
+skimRange ws at = forget (word ws 3 (fitsKind 3) at)
+
 abbrev pub skimExpression : List ℕ → ℕ → Reader (Unit {0})
 skimExpression ws v at = forget (readExpression ws v at)
 

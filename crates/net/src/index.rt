@@ -1,12 +1,15 @@
-// Where the structures of a net begin, by value, for the calls that work on the net afterwards.
+// Where the structures of a net begin, in lent tables, and by value for the calls that work on the net afterwards.
+use crate::skim::skip_ranges;
 use crate::skim::skip_several;
 use crate::take::Taken;
 use crate::take::take;
 use expression::read::Skipped;
 ghost use mathlib.Core.Path.{_≡_};
 ghost use Prim.Native.Nat.{_≤_};
-ghost use Rattle.net.specs.Skim.{starts, skimPlace, skimPlaces, skimTransition, skimTransitions, skimNet};
-ghost use Rattle.net.specs.Index.{refusalOf, transitionRead, placeRead, placesRead, startsRead, netRead};
+ghost use mathlib.Core.List.{zip};
+ghost use lib.ListN.{length, take};
+ghost use Rattle.net.specs.Skim.{skimPlace, skimPlaces, skimTransition};
+ghost use Rattle.net.specs.Index.{refusalOf, upTo, noParts, AreParts, transitionRead, placeRead};
 
 // A transition: where it ends or why it cannot be read, how many of each part it has, and where they begin. Its ranges begin right after
 // its word.
@@ -42,61 +45,102 @@ pub fn ending(end: Skipped) -> TransitionIndex
     }
 }
 
-// The transition at a position; `widths` has the number of components of each place.
-pub fn read_transition(words: &[u32], widths: &[usize], at: usize) -> TransitionIndex
-    ensures { λ r. ⌜ transitionRead r ≡ skimTransition (now (words .entry)) (now (widths .entry)) at ⌝ }
+// A transition whose parts stand in tables: where it ends or why it cannot be read, and how many of each part it has.
+pub struct Parts {
+    pub end: Skipped,
+    pub variables: usize,
+    pub inputs: usize,
+    pub outputs: usize,
+    pub conjuncts: usize,
+    pub elements: usize,
+}
+
+// A transition that has no parts.
+fn no_parts(end: Skipped) -> Parts
+    ensures { λ r. ⌜ r ≡ noParts end ⌝ }
+{
+    Parts {
+        end: end,
+        variables: 0,
+        inputs: 0,
+        outputs: 0,
+        conjuncts: 0,
+        elements: 0,
+    }
+}
+
+// The transition at a position; `widths` has the number of components of each place. Where its parts begin is written to the front of four
+// tables.
+pub fn read_parts(
+    words: &[u32],
+    widths: &[usize],
+    ins: &mut [usize],
+    outs: &mut [usize],
+    guard: &mut [usize],
+    plan: &mut [usize],
+    at: usize,
+) -> Parts
+    requires { ⌜ (length (now ins) ≡ 8) × (length (now outs) ≡ 8) × (length (now guard) ≡ 8) × (length (now plan) ≡ 8) ⌝ }
+    ensures { λ r. ⌜ AreParts (now (words .entry)) (now (widths .entry)) at (now (ins .exit)) (now (outs .exit)) (now (guard .exit)) (now (plan .exit)) r ⌝ }
 {
     let head = take(words, at, 4);
     let Taken::Word(w) = head else {
-        return ending(refusal_of(head));
+        return no_parts(refusal_of(head));
     };
     let variables = (w % 16) as usize;
     let inputs = (w / 16 % 16) as usize;
     let outputs = (w / 256 % 16) as usize;
     let conjuncts = (w / 4096 % 16) as usize;
     let elements = (w / 65536 % 16) as usize;
-    let ranges = skip_several(words, widths, variables, 3, variables, at + 1);
-    let ranges_end = ranges.end;
-    let Skipped::Next(inputs_from) = ranges_end else {
-        return ending(ranges_end);
-    };
-    let ins = skip_several(words, widths, variables, 5, inputs, inputs_from);
-    let ins_end = ins.end;
-    let Skipped::Next(outputs_from) = ins_end else {
-        return ending(ins_end);
-    };
-    let outs = skip_several(words, widths, variables, 5, outputs, outputs_from);
-    let outs_end = outs.end;
-    let Skipped::Next(conjuncts_from) = outs_end else {
-        return ending(outs_end);
-    };
-    let guard = skip_several(words, widths, variables, 6, conjuncts, conjuncts_from);
-    let guard_end = guard.end;
-    let Skipped::Next(elements_from) = guard_end else {
-        return ending(guard_end);
-    };
-    let plan = skip_several(words, widths, variables, 10, elements, elements_from);
-    let plan_end = plan.end;
-    let ins_at = ins.at;
-    let outs_at = outs.at;
-    let guard_at = guard.at;
-    let plan_at = plan.at;
-    TransitionIndex {
-        end: plan_end,
+    let ranges_end = skip_ranges(words, variables, at + 1);
+    let ins_end = skip_several(words, widths, variables, 5, ins, inputs, ranges_end);
+    let outs_end = skip_several(words, widths, variables, 5, outs, outputs, ins_end);
+    let guard_end = skip_several(words, widths, variables, 6, guard, conjuncts, outs_end);
+    let end = skip_several(words, widths, variables, 10, plan, elements, guard_end);
+    Parts {
+        end: end,
         variables: variables,
         inputs: inputs,
         outputs: outputs,
         conjuncts: conjuncts,
         elements: elements,
-        inputs_at: ins_at,
-        outputs_at: outs_at,
-        conjuncts_at: guard_at,
-        elements_at: plan_at,
+    }
+}
+
+// The transition at a position; `widths` has the number of components of each place.
+pub fn read_transition(words: &[u32], widths: &[usize], at: usize) -> TransitionIndex
+    ensures { λ r. ⌜ transitionRead r ≡ skimTransition (now (words .entry)) (now (widths .entry)) at ⌝ }
+{
+    let mut ins = [0usize; 8];
+    let mut outs = [0usize; 8];
+    let mut guard = [0usize; 8];
+    let mut plan = [0usize; 8];
+    let t = read_parts(
+        words,
+        widths,
+        &mut ins,
+        &mut outs,
+        &mut guard,
+        &mut plan,
+        at,
+    );
+    let end = t.end;
+    TransitionIndex {
+        end: end,
+        variables: t.variables,
+        inputs: t.inputs,
+        outputs: t.outputs,
+        conjuncts: t.conjuncts,
+        elements: t.elements,
+        inputs_at: ins,
+        outputs_at: outs,
+        conjuncts_at: guard,
+        elements_at: plan,
     }
 }
 
 // A refused word's refusal.
-fn refusal_of(t: Taken) -> Skipped
+pub fn refusal_of(t: Taken) -> Skipped
     ensures { λ r. ⌜ r ≡ refusalOf t ⌝ }
 {
     match t {
@@ -118,9 +162,7 @@ fn read_place(words: &[u32], at: usize) -> PlaceIndex
     match take(words, at, 2) {
         Taken::Word(p) => {
             let n = p as usize;
-            let none = [0usize; 1];
-            let ranges = skip_several(words, &none[..0], 0, 3, n, at + 1);
-            let end = ranges.end;
+            let end = skip_ranges(words, n, at + 1);
             PlaceIndex { end: end, width: n }
         }
         Taken::Refused(m, s) => PlaceIndex {
@@ -130,20 +172,18 @@ fn read_place(words: &[u32], at: usize) -> PlaceIndex
     }
 }
 
-// Up to 64 places: their end, where each begins, and their numbers of components.
-pub struct Places {
-    pub end: Skipped,
-    pub at: [usize; 64],
-    pub widths: [usize; 64],
-}
-
-// n places.
-fn read_places(words: &[u32], n: usize, at: usize) -> Places
-    requires { ⌜ n ≤ 64 ⌝ }
-    ensures { λ r. ⌜ placesRead n r ≡ skimPlaces n (now (words .entry)) at ⌝ }
+// n places; where each begins and its number of components are written to the front of the two tables.
+pub fn read_places(
+    words: &[u32],
+    begins: &mut [usize],
+    widths: &mut [usize],
+    n: usize,
+    at: usize,
+) -> Skipped
+    requires { ⌜ n ≤ length (now begins) ⌝ }
+    requires { ⌜ n ≤ length (now widths) ⌝ }
+    ensures { λ r. ⌜ upTo r (zip (take n (now (begins .exit))) (take n (now (widths .exit)))) ≡ skimPlaces n (now (words .entry)) at ⌝ }
 {
-    let mut begins = [0usize; 64];
-    let mut widths = [0usize; 64];
     let mut i = 0;
     let mut next = at;
     while i < n {
@@ -156,57 +196,12 @@ fn read_places(words: &[u32], n: usize, at: usize) -> Places
                 next = p;
             }
             Skipped::Refused(m, q) => {
-                return Places {
-                    end: Skipped::Refused(m, q),
-                    at: begins,
-                    widths: widths,
-                };
+                return Skipped::Refused(m, q);
             }
         }
         i += 1;
     }
-    Places {
-        end: Skipped::Next(next),
-        at: begins,
-        widths: widths,
-    }
-}
-
-// Up to 64 structures: their end, and where each begins.
-pub struct Starts {
-    pub end: Skipped,
-    pub at: [usize; 64],
-}
-
-// n transitions.
-fn read_transitions(words: &[u32], widths: &[usize], n: usize, at: usize) -> Starts
-    requires { ⌜ n ≤ 64 ⌝ }
-    ensures { λ r. ⌜ startsRead n r ≡ starts n (skimTransitions (now (words .entry)) (now (widths .entry))) at ⌝ }
-{
-    let mut begins = [0usize; 64];
-    let mut i = 0;
-    let mut next = at;
-    while i < n {
-        begins[i] = next;
-        let t = read_transition(words, widths, next);
-        let end = t.end;
-        match end {
-            Skipped::Next(p) => {
-                next = p;
-            }
-            Skipped::Refused(m, q) => {
-                return Starts {
-                    end: Skipped::Refused(m, q),
-                    at: begins,
-                };
-            }
-        }
-        i += 1;
-    }
-    Starts {
-        end: Skipped::Next(next),
-        at: begins,
-    }
+    Skipped::Next(next)
 }
 
 // A net: where it ends or why it cannot be read, its places with their numbers of components, and its transitions.
@@ -217,50 +212,4 @@ pub struct NetIndex {
     pub places_at: [usize; 64],
     pub widths: [usize; 64],
     pub transitions_at: [usize; 64],
-}
-
-// The net at the front of words.
-pub fn read_net(words: &[u32]) -> NetIndex
-    ensures { λ r. ⌜ netRead r ≡ skimNet (now (words .entry)) 0 ⌝ }
-{
-    let none = [0usize; 64];
-    match take(words, 0, 1) {
-        Taken::Word(w) => {
-            let places = (w / 256 % 256) as usize;
-            let transitions = (w % 256) as usize;
-            let ps = read_places(words, places, 1);
-            let ps_end = ps.end;
-            let ps_at = ps.at;
-            let widths = ps.widths;
-            let Skipped::Next(from) = ps_end else {
-                return NetIndex {
-                    end: ps_end,
-                    places: 0,
-                    transitions: 0,
-                    places_at: none,
-                    widths: none,
-                    transitions_at: none,
-                };
-            };
-            let ts = read_transitions(words, &widths[..places], transitions, from);
-            let ts_end = ts.end;
-            let ts_at = ts.at;
-            NetIndex {
-                end: ts_end,
-                places: places,
-                transitions: transitions,
-                places_at: ps_at,
-                widths: widths,
-                transitions_at: ts_at,
-            }
-        }
-        Taken::Refused(n, p) => NetIndex {
-            end: Skipped::Refused(n, p),
-            places: 0,
-            transitions: 0,
-            places_at: none,
-            widths: none,
-            transitions_at: none,
-        },
-    }
 }

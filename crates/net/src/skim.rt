@@ -5,9 +5,11 @@ use expression::read::Skipped;
 use expression::read::skip_expression;
 ghost use mathlib.Core.Path.{_≡_};
 ghost use Prim.Native.Nat.{_≤_};
+ghost use lib.ListN.{length, take};
+ghost use Rattle.semantics.specs.Reading.{then};
 ghost use Rattle.expression.specs.Skip.{forget, skipped};
-ghost use Rattle.net.specs.Skim.{starts, skimExpression, skimArc, skimConjunct, skimOne};
-ghost use Rattle.net.specs.Index.{positions};
+ghost use Rattle.net.specs.Skim.{starts, skimRange, skimExpression, skimArc, skimConjunct, skimOne};
+ghost use Rattle.net.specs.Index.{upTo};
 
 // So many expressions.
 fn skip_expressions(words: &[u32], variables: usize, n: usize, at: usize) -> Skipped
@@ -75,25 +77,22 @@ fn skip_one(words: &[u32], widths: &[usize], variables: usize, k: u32, at: usize
     }
 }
 
-// The end of up to eight structures, and where each begins.
-pub struct Positions {
-    pub end: Skipped,
-    pub at: [usize; 8],
-}
-
-// n structures of one kind.
+// n structures of one kind from the end of what stands before them, or its refusal; where each begins is written to the front of `begins`.
 pub fn skip_several(
     words: &[u32],
     widths: &[usize],
     variables: usize,
     k: u32,
+    begins: &mut [usize],
     n: usize,
-    at: usize,
-) -> Positions
-    requires { ⌜ n ≤ 8 ⌝ }
-    ensures { λ r. ⌜ positions n r ≡ starts n (skimOne (now (words .entry)) (now (widths .entry)) variables k) at ⌝ }
+    from: Skipped,
+) -> Skipped
+    requires { ⌜ n ≤ length (now begins) ⌝ }
+    ensures { λ r. ⌜ upTo r (take n (now (begins .exit))) ≡ then (skipped from) (λ u at. starts n (skimOne (now (words .entry)) (now (widths .entry)) variables k) at) ⌝ }
 {
-    let mut begins = [0usize; 8];
+    let Skipped::Next(at) = from else {
+        return from;
+    };
     let mut i = 0;
     let mut next = at;
     while i < n {
@@ -103,16 +102,30 @@ pub fn skip_several(
                 next = p;
             }
             Skipped::Refused(m, q) => {
-                return Positions {
-                    end: Skipped::Refused(m, q),
-                    at: begins,
-                };
+                return Skipped::Refused(m, q);
             }
         }
         i += 1;
     }
-    Positions {
-        end: Skipped::Next(next),
-        at: begins,
+    Skipped::Next(next)
+}
+
+// So many RANGE words.
+pub fn skip_ranges(words: &[u32], n: usize, at: usize) -> Skipped
+    ensures { λ r. ⌜ skipped r ≡ forget (starts n (skimRange (now (words .entry))) at) ⌝ }
+{
+    let mut i = 0;
+    let mut next = at;
+    while i < n {
+        match take(words, next, 3) {
+            Taken::Word(_) => {
+                next += 1;
+            }
+            Taken::Refused(m, q) => {
+                return Skipped::Refused(m, q);
+            }
+        }
+        i += 1;
     }
+    Skipped::Next(next)
 }

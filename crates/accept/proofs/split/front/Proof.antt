@@ -1,14 +1,13 @@
--- `accept::split::front` meets its contract.
-use Rattle.accept.proofs.Checking.{front-ends}
+-- `accept::split::front` meets its contract: no net ends before the word 0.
+use mathlib.Core.Path.{ap, _∙_}
 use borrow.Author.Needs.{needs}
+use Rattle.expression.specs.Skip.{forget}
+use Rattle.accept.proofs.Checking.{to-front, front-ends}
 use Rattle.accept.proofs.split.front.Statement.{statement}
 use Rattle.accept.proofs.split.front.Tie as tie
 
-accept-front-requires : tie.Need-accept-front-requires
-accept-front-requires c κs = search needs
-
 returns : tie.Need-returns
-returns c = front-ends (c .before .before .args .words .now) (c .accept-front .result) (c .accept-front .ensures)
+returns c = front-ends _ (c .accepted-end .result) (c .accepted-end .ensures ∙ ap forget (to-front (c .before .before .args .words .now)))
 
 pub front-spec : {M : Type 1} → statement M
-front-spec = tie.close (tie.spec accept-front-requires returns)
+front-spec = tie.close (tie.spec (λ c κs. search needs) returns)

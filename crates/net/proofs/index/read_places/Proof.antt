@@ -9,28 +9,38 @@ use Rattle.net.proofs.index.read_places.Statement.{statement}
 use Rattle.net.proofs.index.read_places.Tie as tie
 
 abbrev Inv-loop : tie.InvT-loop
-Inv-loop words n at begins₀ widths₀ i₀ next₀ begins widths i next = Placed words n at i next begins widths × (length begins ≡ 64) × (length widths ≡ 64)
+Inv-loop words begins₀ widths₀ n at i₀ next₀ begins widths i next = Placed words n at i next begins widths × (length begins ≡ length begins₀) × (length widths ≡ length widths₀)
 
 abbrev μ-loop : tie.MeasureT-loop
-μ-loop words n at begins₀ widths₀ i₀ next₀ begins widths i next = n - i
+μ-loop words begins₀ widths₀ n at i₀ next₀ begins widths i next = n - i
 
 loop-holds : tie.Need-loop-holds Inv-loop μ-loop
 loop-holds c = (placed-start _ _ _ _ _, refl, refl)
 
-returns : tie.Need-returns Inv-loop μ-loop
-returns c = search netting
+same-length : tie.Need-same-length Inv-loop μ-loop
+same-length c =
+    let lp = c .before .before .before .before .before .loop in
+    length-set (lp .begins) (lp .i) _ ∙ lp .inv .1
+
+same-length-2 : tie.Need-same-length-2 Inv-loop μ-loop
+same-length-2 c =
+    let lp = c .before .before .before .before .before .loop in
+    length-set (lp .widths) (lp .i) _ ∙ lp .inv .2
 
 loop-again : tie.Need-loop-again Inv-loop μ-loop
 loop-again c =
     let lp = c .before .before .before .before .before .loop in
     let rp = c .before .before .before .read-place in (
       placed-goes (lp .inv .0) (omega arith) (rp .result .width) (rp .ensures) (omega arith) (omega arith) (c .before .end .given .1),
-      length-set (lp .begins) (lp .i) (lp .next) ∙ lp .inv .1,
-      length-set (lp .widths) (lp .i) (rp .result .width) ∙ lp .inv .2,
+      length-set (lp .begins) (lp .i) _ ∙ lp .inv .1,
+      length-set (lp .widths) (lp .i) _ ∙ lp .inv .2,
     )
 
-returns-2 : tie.Need-returns-2 Inv-loop μ-loop
-returns-2 c = search netting
+same-length-3 : tie.Need-same-length-3 Inv-loop μ-loop
+same-length-3 c = c .before .loop .inv .1
+
+same-length-4 : tie.Need-same-length-4 Inv-loop μ-loop
+same-length-4 c = c .before .loop .inv .2
 
 pub read-places-spec : {M : Type 1} → statement M
 read-places-spec =
@@ -46,8 +56,12 @@ read-places-spec =
     (λ c. omega arith)
     (λ c. search needs)
     (λ c. search needs)
-    returns
+    same-length
+    same-length-2
+    (λ c. search netting)
     (λ c. omega arith)
     (λ c. omega arith)
     loop-again
-    returns-2)
+    same-length-3
+    same-length-4
+    (λ c. search netting))
