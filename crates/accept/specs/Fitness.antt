@@ -1,6 +1,6 @@
 -- Refusal 5 on the words of a net that was read: what an element binds, told from the positions of a transition's parts.
 -- proofs/Fitness.antt shows that it is what semantics says of the transition there. Rests on net/specs/Skim.
-use Prim.Native.Nat.{ℕ, zero, suc, _+_}
+use Prim.Native.Nat.{ℕ, zero, suc}
 use mathlib.Core.Bool.{Bool, false, cond, not, _&&_, _||_}
 use mathlib.Core.List.{List, [], _∷_, _++_}
 use mathlib.Core.Option.{Option, none, some}

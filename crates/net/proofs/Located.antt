@@ -1,15 +1,15 @@
 -- Structures by their positions: in a net that was read, the words at the position of a place, a transition, an arc, a conjunct or an
 -- element read as that structure. The idea: each member of a list that is read was read where it says that it begins.
-use mathlib.Core.Path.{_≡_, refl, sym, ap, _∙_, subst}
+use mathlib.Core.Path.{_≡_, refl, sym, ap, subst}
 use Prim.Native.Nat.{ℕ, zero, suc}
-use mathlib.Core.List.{List, [], _∷_, map}
+use mathlib.Core.List.{List}
 use lib.ListN.{length}
 use Rattle.semantics.specs.Lists.{Every}
 use Rattle.semantics.specs.Word.{bits}
-use Rattle.semantics.specs.Reading.{Reading, read, refused, then, Reader, several, word}
+use Rattle.semantics.specs.Reading.{read, Reader, several, word}
 use Rattle.semantics.specs.Net.{Place, Arc, Conjunct, Element, Transition, Net}
 use Rattle.semantics.specs.ReadNet.{readRange, readPlace, readArc, readConjunct, readElement, readTransition, readNet}
-use Rattle.semantics.proofs.Readers.{Gives, gives, refusal, given, then-gives, as-read, weaken}
+use Rattle.semantics.proofs.Readers.{Gives, gives, given, then-gives, as-read}
 use Rattle.net.specs.Skim.{fitsKind}
 use Rattle.net.proofs.Skimming.{several-length, place-begins, arc-begins, conjunct-begins, element-begins, transition-begins}
 

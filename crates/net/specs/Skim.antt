@@ -1,7 +1,7 @@
 -- Reading a net for its positions alone: where structures begin, without the data that semantics reads. proofs/Skimming.antt shows that
 -- these readings are those of semantics with the data left out. Rests on semantics.
-use Prim.Native.Nat.{ℕ, zero, suc, _+_}
-use mathlib.Core.Bool.{Bool, true, false, cond, _&&_}
+use Prim.Native.Nat.{ℕ, zero, suc}
+use mathlib.Core.Bool.{Bool, true, cond, _&&_}
 use mathlib.Core.List.{List, [], _∷_, map}
 use lib.Dec.{leb, ltb, eqb}
 use lib.Signed.{leZ}

@@ -3,7 +3,7 @@ use word::fields::kind;
 use word::fields::payload;
 use word::fields::signed;
 ghost use mathlib.Core.Path.{_≡_};
-ghost use Prim.Native.Nat.{_%_, _^_};
+ghost use Prim.Native.Nat.{_%_};
 ghost use Rattle.semantics.specs.Word.{between};
 ghost use Rattle.semantics.specs.ReadNet.{netWord, transitionWord};
 ghost use Rattle.net.specs.Skim.{fitsKind, rangeWord};

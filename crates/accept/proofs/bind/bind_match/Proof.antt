@@ -3,10 +3,6 @@ use borrow.Author.Needs.{needs}
 use Rattle.accept.proofs.Binding.{binding}
 use Rattle.accept.proofs.bind.bind_match.Statement.{statement}
 use Rattle.accept.proofs.bind.bind_match.Tie as tie
-use Rattle.accept.proofs.bind.bind_match.Reads as reads
-use Rattle.accept.proofs.bind.bind_match.Lts as lts
-use Rattle.accept.proofs.bind.bind_each.Reads as bind-each-reads
-use Rattle.net.proofs.take.take.Reads as take-reads
 
 -- src/bind.rt:67:11
 take-requires : tie.Need-take-requires

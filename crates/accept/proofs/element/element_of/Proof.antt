@@ -4,8 +4,6 @@ use Rattle.word.proofs.Words.{bits-low}
 use Rattle.net.proofs.Taking.{tests}
 use Rattle.accept.proofs.element.element_of.Statement.{statement}
 use Rattle.accept.proofs.element.element_of.Tie as tie
-use Rattle.accept.proofs.element.element_of.Reads as reads
-use Rattle.accept.proofs.element.element_of.Lts as lts
 
 -- src/element.rt:21:13
 cast-n : tie.Need-cast-n

@@ -1,9 +1,7 @@
 -- `accept::plan::unbound` meets its contract: from the last variable down, those passed are bound.
-use mathlib.Core.Path.{_≡_, sym, _∙_}
 use native.Mathlib.Omega.{arith}
-use borrow.Author.Needs.{needs}
 use borrow.Author.Tests.{not-true, not-false}
-use Rattle.accept.proofs.Faults.{Bounded, bounded-start, bounded-turn, bounded-stop, bounded-end, faults}
+use Rattle.accept.proofs.Faults.{Bounded, bounded-start, bounded-turn, bounded-stop, faults}
 use Rattle.accept.proofs.plan.unbound.Statement.{statement}
 use Rattle.accept.proofs.plan.unbound.Tie as tie
 

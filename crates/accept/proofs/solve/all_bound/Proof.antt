@@ -9,9 +9,6 @@ use Rattle.accept.specs.Plan.{marked}
 use Rattle.accept.proofs.Solving.{solving}
 use Rattle.accept.proofs.solve.all_bound.Statement.{statement}
 use Rattle.accept.proofs.solve.all_bound.Tie as tie
-use Rattle.accept.proofs.solve.all_bound.Reads as reads
-use Rattle.accept.proofs.solve.all_bound.Lts as lts
-use Rattle.accept.proofs.solve.passes.Reads as passes-reads
 
 abbrev Inv-loop : tie.InvT-loop
 Inv-loop words marks from to at₀ at = allBound words (marked marks) at to ≡ allBound words (marked marks) from to

@@ -3,10 +3,6 @@ use Rattle.accept.proofs.Solving.{solving}
 use borrow.Author.Needs.{needs}
 use Rattle.accept.proofs.solve.bind_side.Statement.{statement}
 use Rattle.accept.proofs.solve.bind_side.Tie as tie
-use Rattle.accept.proofs.solve.bind_side.Reads as reads
-use Rattle.accept.proofs.solve.bind_side.Lts as lts
-use Rattle.accept.proofs.bind.bind_lone.Reads as bind-lone-reads
-use Rattle.accept.proofs.solve.all_bound.Reads as all-bound-reads
 
 -- src/solve.rt:54:8
 all-bound-requires : tie.Need-all-bound-requires

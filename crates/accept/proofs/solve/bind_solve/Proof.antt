@@ -3,11 +3,6 @@ use Rattle.accept.proofs.Solving.{solving}
 use borrow.Author.Needs.{needs}
 use Rattle.accept.proofs.solve.bind_solve.Statement.{statement}
 use Rattle.accept.proofs.solve.bind_solve.Tie as tie
-use Rattle.accept.proofs.solve.bind_solve.Reads as reads
-use Rattle.accept.proofs.solve.bind_solve.Lts as lts
-use Rattle.accept.proofs.solve.bind_side.Reads as bind-side-reads
-use Rattle.expression.proofs.read.skip_expression.Reads as skip-expression-reads
-use Rattle.net.proofs.take.take.Reads as take-reads
 
 -- src/solve.rt:66:11
 take-requires : tie.Need-take-requires

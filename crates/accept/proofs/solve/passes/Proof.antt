@@ -6,10 +6,6 @@ use borrow.Author.Needs.{needs}
 use Rattle.accept.proofs.Solving.{passes-beyond, solving}
 use Rattle.accept.proofs.solve.passes.Statement.{statement}
 use Rattle.accept.proofs.solve.passes.Tie as tie
-use Rattle.accept.proofs.solve.passes.Reads as reads
-use Rattle.accept.proofs.solve.passes.Lts as lts
-use Rattle.word.proofs.fields.kind.Reads as kind-reads
-use Rattle.word.proofs.fields.payload.Reads as payload-reads
 
 -- src/solve.rt:22:8
 kind-requires : tie.Need-kind-requires

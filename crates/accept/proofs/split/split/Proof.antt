@@ -3,9 +3,6 @@ use Rattle.accept.proofs.Checking.{split-part, split-refused, split-ins
 use borrow.Author.Needs.{needs}
 use Rattle.accept.proofs.split.split.Statement.{statement}
 use Rattle.accept.proofs.split.split.Tie as tie
-use Rattle.accept.proofs.split.split.Reads as reads
-use Rattle.accept.proofs.split.split.Lts as lts
-use Rattle.accept.proofs.split.front.Reads as front-reads
 
 -- src/split.rt:36:11
 front-requires : tie.Need-front-requires

@@ -3,11 +3,6 @@ use borrow.Author.Needs.{needs}
 use Rattle.net.proofs.Structures.{passing}
 use Rattle.net.proofs.skim.skip_arc.Statement.{statement}
 use Rattle.net.proofs.skim.skip_arc.Tie as tie
-use Rattle.net.proofs.skim.skip_arc.Reads as reads
-use Rattle.net.proofs.skim.skip_arc.Lts as lts
-use Rattle.expression.proofs.read.skip_expression.Reads as skip-expression-reads
-use Rattle.net.proofs.skim.skip_expressions.Reads as skip-expressions-reads
-use Rattle.net.proofs.take.take.Reads as take-reads
 
 -- src/skim.rt:36:11
 take-requires : tie.Need-take-requires

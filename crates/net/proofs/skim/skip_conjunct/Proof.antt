@@ -3,10 +3,6 @@ use borrow.Author.Needs.{needs}
 use Rattle.net.proofs.Structures.{passing}
 use Rattle.net.proofs.skim.skip_conjunct.Statement.{statement}
 use Rattle.net.proofs.skim.skip_conjunct.Tie as tie
-use Rattle.net.proofs.skim.skip_conjunct.Reads as reads
-use Rattle.net.proofs.skim.skip_conjunct.Lts as lts
-use Rattle.expression.proofs.read.skip_expression.Reads as skip-expression-reads
-use Rattle.net.proofs.take.take.Reads as take-reads
 
 -- src/skim.rt:55:11
 take-requires : tie.Need-take-requires

@@ -6,9 +6,6 @@ use Rattle.net.specs.Skim.{skimExpression}
 use Rattle.net.proofs.Loops.{Ahead, ahead-start, looping}
 use Rattle.net.proofs.skim.skip_expressions.Statement.{statement}
 use Rattle.net.proofs.skim.skip_expressions.Tie as tie
-use Rattle.net.proofs.skim.skip_expressions.Reads as reads
-use Rattle.net.proofs.skim.skip_expressions.Lts as lts
-use Rattle.expression.proofs.read.skip_expression.Reads as skip-expression-reads
 
 abbrev Inv-loop : tie.InvT-loop
 Inv-loop words variables n at i₀ next₀ i next = Ahead (skimExpression words variables) n at i next

@@ -3,11 +3,6 @@ use borrow.Author.Needs.{needs}
 use Rattle.net.proofs.Structures.{passing}
 use Rattle.net.proofs.skim.skip_one.Statement.{statement}
 use Rattle.net.proofs.skim.skip_one.Tie as tie
-use Rattle.net.proofs.skim.skip_one.Reads as reads
-use Rattle.net.proofs.skim.skip_one.Lts as lts
-use Rattle.net.proofs.skim.skip_arc.Reads as skip-arc-reads
-use Rattle.net.proofs.skim.skip_conjunct.Reads as skip-conjunct-reads
-use Rattle.net.proofs.take.take.Reads as take-reads
 
 -- src/skim.rt:69:14
 skip-arc-requires : tie.Need-skip-arc-requires
