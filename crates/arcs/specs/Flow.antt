@@ -1,5 +1,5 @@
 -- 01, "Enabling and stepping": what guards and arcs say under a binding of lent words, told from the positions of conjuncts and arcs.
--- proofs/Reading.antt shows that they are what semantics says of a transition that was read.
+-- occurrence/proofs/Reading shows that they are what semantics says of a transition that was read.
 -- Rests on semantics/specs/{ReadNet, Enabling}, expression/specs/Evaluate and net/specs/Places.
 use Prim.Native.Nat.{ℕ}
 use mathlib.Core.Bool.{Bool, true, false, _&&_}

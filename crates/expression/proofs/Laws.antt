@@ -23,9 +23,9 @@ use Rattle.semantics.proofs.Words.{modulo-below, value-kind, value-payload, sig
 use Rattle.expression.specs.declared.read.Skipped.{Skipped}
 use Rattle.expression.specs.declared.read.Skipped.the-variants.{Next, Refused}
 use Rattle.expression.specs.declared.evaluate.Evaluated.{Evaluated}
-use Rattle.expression.specs.declared.evaluate.Evaluated.the-variants.{Value, NoValue, Nothing}
+use Rattle.expression.specs.declared.evaluate.Evaluated.the-variants.{Value, NoValue}
 use Rattle.expression.specs.Skip.{forget, skipped, Ahead}
-use Rattle.expression.specs.Evaluate.{valueOf, lent, valued, unread, evaluated, evaluatedFrom}
+use Rattle.expression.specs.Evaluate.{valueOf, lent, valued, evaluated, evaluatedFrom}
 use Rattle.expression.proofs.Spelled.{HeadWord, headOfTree, Spelled, spelled}
 
 -- ── Parts of the words ──
@@ -138,12 +138,6 @@ module _ (ws : List ℕ) (variables at : ℕ) {e : Expression} {next : ℕ} (x :
 
     pub read-no-value : {p : ℕ} → r ≡ NoValue p → (value houseTable (lent bs) e ≡ none) × (p ≡ next)
     read-no-value {p} d = let v : valued none p ≡ valued (value houseTable (lent bs) e) next = rw d at read-evaluates in (cc, cc)
-
-    pub read-something : r ≡ Nothing → ⊥
-    read-something d =
-        let v : unread ≡ valued (value houseTable (lent bs) e) next = rw d at read-evaluates in
-        let z : _≡_ {A = ℕ} 0 1 = cc in
-        omega arith
 
 -- ── An expression passed over ──
 

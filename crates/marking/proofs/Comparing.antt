@@ -13,7 +13,7 @@ use lib.Signed.{ltZ}
 use lib.ListN.{length, getD, drop, drop-of-length-le}
 use lib.Seq.{drop-cons}
 use Rattle.semantics.specs.Word.{signed}
-use Rattle.semantics.specs.Order.{sameInteger, sameTuple, before}
+use Rattle.semantics.specs.Order.{sameInteger, before}
 use Rattle.marking.specs.Marked.{valuesAt}
 
 -- ── Values in words ──
@@ -68,15 +68,6 @@ module _ {xs ys : List ℤ} {i : ℕ} {x y : ℤ} (a : Left before xs ys i) (h :
   pub before-turn : ltZ x y ≡ false → sameInteger x y ≡ true → Left before xs ys (i + 1)
   unfolding before
   before-turn e d = record { inside = omega arith; alike = a .alike; same = rw (← p, ← q, e, d) at (left-first a h) }
-
-module _ {xs ys : List ℤ} {i : ℕ} {x y : ℤ} (a : Left sameTuple xs ys i) (h : i < length xs) (p : x ≡ getD xs i (pos 0)) (q : y ≡ getD ys i (pos 0)) where
-  pub same-differs : sameInteger x y ≡ false → false ≡ sameTuple xs ys
-  unfolding sameTuple
-  same-differs d = rw (← p, ← q, d) at (left-first a h)
-
-  pub same-turn : sameInteger x y ≡ true → Left sameTuple xs ys (i + 1)
-  unfolding sameTuple
-  same-turn d = record { inside = omega arith; alike = a .alike; same = rw (← p, ← q, d) at (left-first a h) }
 
 -- ── By the answers of the code ──
 

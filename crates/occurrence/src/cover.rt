@@ -8,8 +8,19 @@ ghost use lib.ListN.{length};
 ghost use Rattle.semantics.specs.Lists.{Every};
 ghost use Rattle.net.specs.Places.{PlacesFit};
 ghost use Rattle.marking.specs.Marked.{IsSpot};
-ghost use Rattle.arcs.specs.Keys.{keyPlace, keyColour, KeyFits, sumOf};
+ghost use Rattle.arcs.specs.Keys.{keyPlace, widthOf, keyColour, KeyFits, sumOf};
 ghost use Rattle.occurrence.specs.Answers.{IsCovered};
+
+// The components of the place of a key.
+pub fn width_of(net: &[u32], places: &[usize], key: u64) -> usize
+    requires { ⌜ PlacesFit (now net) (now places) ⌝ }
+    requires { ⌜ keyPlace key < length (now places) ⌝ }
+    ensures { λ r. ⌜ (r ≡ widthOf (now (net .entry)) (now (places .entry)) (keyPlace key)) × (r ≤ 4) ⌝ }
+{
+    let place = (key / 0x100_0000_0000_0000) as usize;
+    let at = places[place];
+    payload(net[at]) as usize
+}
 
 // The entry of a key in a marking with the beginnings of its places.
 pub fn spot_of(net: &[u32], places: &[usize], marking: &[u32], begins: &[usize], key: u64) -> Spot
@@ -19,8 +30,7 @@ pub fn spot_of(net: &[u32], places: &[usize], marking: &[u32], begins: &[usize],
     ensures { λ r. ⌜ IsSpot (now (marking .entry)) (now (begins .entry)) (keyPlace key) (keyColour (now (net .entry)) (now (places .entry)) key) r ⌝ }
 {
     let place = (key / 0x100_0000_0000_0000) as usize;
-    let from = places[place];
-    let width = payload(net[from]) as usize;
+    let width = width_of(net, places, key);
     find(marking, begins, place, width, key % 0x100_0000_0000_0000)
 }
 

@@ -464,10 +464,6 @@ module _ (ps : List Place) (ws : List ℕ) (es : List Entry) (next : ℕ) (r : m
 
 -- ── The length ──
 
-pub apart-inside : (end src : ℕ) (ts : List Change) → Apart end src ts → src ≤ end
-apart-inside end src [] a = a
-apart-inside end src (t ∷ ts) a = let h = a .0 in let k = a .1 in omega arith
-
 length-from : (ws : List ℕ) (src : ℕ) (ts : List Change) → Apart (length ws) src ts → length (patched ws src ts) + (src + oldLength ts) ≡ length ws + newLength ts
 unfolding patched oldLength newLength
 length-from ws src [] a = omega (arith, length-drop src ws)

@@ -11,7 +11,7 @@ use native.Mathlib.Omega.{arith}
 use borrow.Author.Tests.{ltb-true, ltb-false}
 use lib.Dec.{ltb}
 use lib.IntN.{ℤ}
-use lib.ListN.{length, getD, set, take, drop, length-append, length-map, length-set, length-drop, take-append-drop}
+use lib.ListN.{length, getD, set, take, drop, length-append, length-map, length-set, take-append-drop}
 use lib.Seq.{slice, length-slice, length-take-le, take-length, take-at, drop-append-add, drop-drop, set-split, set-append-left, take-set-lt, drop-set-lt, getD-drop, getD-take, paste, paste-suc}
 use Rattle.semantics.specs.Word.{tokenWord, valueWord}
 use Rattle.semantics.specs.Marking.{entryWords}
@@ -28,9 +28,6 @@ module _ (d : List ℕ) (at : ℕ) where
 
   head-length : (xs : List ℕ) → at ≤ length d → length (take at d ++ xs) ≡ at + length xs
   head-length xs h = omega (arith, length-append (take at d) xs, length-take-le at d h)
-
-  pub length-written : (xs : List ℕ) → at + length xs ≤ length d → length (written d at xs) ≡ length d
-  length-written xs h = omega (arith, length-append (take at d ++ xs) (drop (at + length xs) d), head-length xs (omega arith), length-drop (at + length xs) d)
 
   -- one after the other
   pub written-written : (xs ys : List ℕ) → at ≤ length d → written (written d at xs) (at + length xs) ys ≡ written d at (xs ++ ys)

@@ -266,9 +266,6 @@ module _ (ws : List ℕ) (net : Net) (next : ℕ) where
   pub front-sound : acceptFront ws ≡ read net next → SoundNet net
   front-sound e = read-sound ws 0 net next (front-read e)
 
-  pub front-planned : acceptFront ws ≡ read net next → (t : Transition) → List·Memᴰ t (net .transitions) → planFault t [] (t .plan) ≡ none
-  front-planned e t k = no-fault (given (front-gives ws) e .1) k
-
   pub front-inside : acceptFront ws ≡ read net next → Inside ws next
   front-inside e = read-inside ws 0 net next (front-read e) (inside-0 ws)
 

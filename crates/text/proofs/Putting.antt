@@ -9,8 +9,8 @@ use Prim.Native.Nat.{ℕ, suc, _+_, _-_, _≤_, _<_, min}
 use native.Mathlib.Omega.{arith}
 use borrow.Author.Tests.{leb-true, leb-false}
 use lib.Dec.{leb}
-use lib.ListN.{length, take, drop, set, length-append}
-use lib.Seq.{sets, length-sets, sets-eq, set-out}
+use lib.ListN.{length, set, length-append}
+use lib.Seq.{sets, length-sets, set-out}
 use Rattle.semantics.proofs.Tests.{either}
 use Rattle.text.specs.Put.{Put}
 
@@ -66,10 +66,6 @@ module _ {b : List ℕ} {at : ℕ} where
 
   pub put-lost : {x : ℕ} → length b ≤ at → Put b at (x ∷ []) b at
   put-lost {x} h = record { bytes = sym (set-out b at x h); ends = omega arith }
-
-  -- text that is all put before the buffer's end
-  pub put-whole : {t c : List ℕ} {end : ℕ} → Put b at t c end → at + length t ≤ length b → (c ≡ take at b ++ t ++ drop (at + length t) b) × (end ≡ at + length t)
-  put-whole {t} p h = let e = p .ends in (p .bytes ∙ sets-eq t b at h, omega arith)
 
 -- ── Text in parts ──
 

@@ -58,9 +58,6 @@ tries-length ws ranges v ms r p = by (r .element .sort)
     by (Solve k) = length-replicate (r .count) (solvedAt ws (rangesFrom ws v ranges) v p (r .from))
     by (InRange n) = length-map (upFrom 0 (r .count)) (λ i. some (set p n (some (valueAt (getD ws (ranges + n) 0) i)))) ∙ up-length 0 (r .count)
 
-pub arrival-count : {ws ps : List ℕ} {position v : ℕ} {inputs conjuncts ms begins : List ℕ} {e : Element} {r : Step} → IsArrival ws ps position v inputs conjuncts ms begins e r → (p : Partial) → length (triesBy ws (position + 1) v ms r p) ≡ r .count
-arrival-count {ws = ws} {position = position} {v = v} {ms = ms} {r = r} a p = tries-length ws (position + 1) v ms r p
-
 -- ── Positions ──
 
 -- the position of a member by its number

@@ -1,11 +1,11 @@
 -- Fields and remainders: bits from 0 on, the two halves of the 14 bits of a value, and the remainder of Euclid.
 -- What written words read as stands in semantics/proofs/Words.
-use mathlib.Core.Path.{_≡_, refl, sym, ap, _∙_}
-use Prim.Native.Nat.{ℕ, zero, suc, _+_, _*_, _-_, _/_, _%_, _^_, _≤_, _<_}
-use native.Mathlib.Nat.{mod-lt, div-add-mod', suc-mul}
+use mathlib.Core.Path.{_≡_, refl}
+use Prim.Native.Nat.{ℕ, _+_, _-_, _/_, _%_, _^_, _≤_, _<_}
+use native.Mathlib.Nat.{mod-lt}
 use native.Mathlib.Omega.{arith}
 use lib.Dec.{ltb}
-use lib.IntN.{ℤ, pos, negsuc, negℤ, _+ℤ_, _*ℤ_}
+use lib.IntN.{ℤ, pos, negsuc}
 use borrow.Author.Tests.{lt-ltb, le-ltb}
 use Rattle.semantics.proofs.Tests.{cond-true, cond-false}
 use Rattle.semantics.specs.Word.{bits, signed, modulo}
@@ -31,19 +31,3 @@ signed-high u h = cond-false (ltb u 8192) (pos u) (negsuc (16383 - u)) (le-ltb u
 pub modulo-below : (x : ℤ) (d : ℕ) → 0 < d → modulo x d < d
 modulo-below (pos n) d h = mod-lt n h
 modulo-below (negsuc n) d h = omega arith
-
--- -k + r for r below k
-under : (k r : ℕ) → r < k → negℤ (pos k) +ℤ pos r ≡ negsuc (k - suc r)
-under zero r h = absurd (omega arith)
-under (suc k) r h = rw (lt-ltb r (suc k) h) refl
-
--- x is a multiple of d and the remainder; the quotient rounds down
-pub euclid : (x : ℤ) (d : ℕ) → 0 < d → (q : ℤ) × (x ≡ q *ℤ pos d +ℤ pos (modulo x d))
-euclid (pos n) d h = (pos (n / d), ap pos (sym (div-add-mod' n d)))
-euclid (negsuc n) d h = (negsuc (n / d), sym (under (suc (n / d) * d) (d - suc (n % d)) low ∙ ap negsuc same))
-  where
-    low : d - suc (n % d) < suc (n / d) * d
-    low = omega (arith, suc-mul (n / d) d, h)
-
-    same : suc (n / d) * d - suc (d - suc (n % d)) ≡ n
-    same = omega (arith, suc-mul (n / d) d, div-add-mod' n d, mod-lt n h)
