@@ -72,7 +72,7 @@ fn unread(end: Skipped) -> Extent
 
 // The net at the front of words, refused with 4 where it ends before the word `least`; where its places begin, their widths and where its
 // transitions begin are written to the three tables.
-fn accept_into(
+pub fn accept_into(
     words: &[u32],
     least: usize,
     places_at: &mut [usize],

@@ -29,7 +29,9 @@ use Rattle.net.specs.Places.{placesAt, PlacesFit}
 use Rattle.net.proofs.Skimming.{skim-net}
 use Rattle.net.proofs.Located.{At, net-transitions}
 use Rattle.net.proofs.Placed.{index-widths, index-transitions, index-placed, index-fits, index-outline}
-use Rattle.accept.proofs.Checking.{take-least, index-read, index-refused}
+use Rattle.accept.specs.declared.accepted.Extent.{Extent}
+use Rattle.accept.specs.Front.{IsExtent}
+use Rattle.accept.proofs.Checking.{take-least, to-all, index-read, index-refused}
 use Rattle.marking.specs.declared.index.MarkingIndex.{MarkingIndex}
 use Rattle.marking.specs.Marked.{markingRead, IsMarking}
 use Rattle.occurrence.specs.declared.situation.Situation.{Situation}
@@ -66,7 +68,14 @@ passed-read (refused m q) s {n} e d = let b : read tt n ≡ refused m q = sym (a
 
 -- ── By the answers of the code ──
 
-module _ (ws ms : List ℕ) (t : ℕ) (i : NetIndex) (x : netRead i ≡ changed netOutline (acceptNet ws)) where
+module _ (ws ms : List ℕ) (t : ℕ) (r : Extent) {places widths transitions : List ℕ} (told-net : IsExtent ws (length ws) places widths transitions r) where
+  -- the index of the net, whose tables are lent
+  abbrev i : NetIndex
+  i = record { end = r .end; places = r .places; transitions = r .transitions; «places_at» = places; widths = widths; «transitions_at» = transitions }
+
+  x : netRead i ≡ changed netOutline (acceptNet ws)
+  x = told-net .same ∙ ap (changed netOutline) (to-all ws)
+
   pub net-unaccepted : {n p : ℕ} (s : Situation) → i .end ≡ Refused n p → s .end ≡ i .end → IsSituation ws t ms s
   unfolding situation
   net-unaccepted {n} {p} s e d = record {

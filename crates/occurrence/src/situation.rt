@@ -1,5 +1,5 @@
 // What the calls on a transition and a marking start from: refusals 1 to 7, then the index of all three.
-use accept::accepted::accept_net;
+use accept::accepted::accept_into;
 use accept::plan::at_most;
 use expression::read::Skipped;
 use marking::index::read_marking;
@@ -37,21 +37,26 @@ fn refused_situation(end: Skipped) -> Situation
 pub fn prepare(net: &[u32], transition: u32, marking: &[u32]) -> Situation
     ensures { λ r. ⌜ IsSituation (now (net .entry)) transition (now (marking .entry)) r ⌝ }
 {
-    let index = accept_net(net);
-    let end = index.end;
+    let mut places_at = [0usize; 64];
+    let mut widths = [0usize; 64];
+    let mut transitions_at = [0usize; 64];
+    let extent = accept_into(
+        net,
+        net.len(),
+        &mut places_at,
+        &mut widths,
+        &mut transitions_at,
+    );
+    let end = extent.end;
     let Skipped::Next(_) = end else {
         return refused_situation(end);
     };
     let number = transition as usize;
-    let transitions = at_most(64, index.transitions);
-    if transitions <= number {
+    if at_most(64, extent.transitions) <= number {
         return refused_situation(Skipped::Refused(6, 0));
     }
-    let positions = index.transitions_at;
-    let position = positions[number];
-    let places = at_most(64, index.places);
-    let places_at = index.places_at;
-    let widths = index.widths;
+    let position = transitions_at[number];
+    let places = at_most(64, extent.places);
     let t = read_transition(net, &widths[..places], position);
     let m = read_marking(net, &places_at[..places], marking);
     let m_end = m.end;
