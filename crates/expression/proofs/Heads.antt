@@ -7,6 +7,7 @@ use borrow.Author.Needs.{needs}
 use borrow.Author.Tests.{lt-ltb, le-ltb, le-leb, lt-leb, ne-eqb}
 use lib.IntN.{ℤ}
 use lib.ListN.{length, getD}
+use Rattle.semantics.specs.Refusal.{mostExpressionWords}
 use Rattle.semantics.specs.Word.{kind, payload, signed}
 use Rattle.semantics.specs.Reading.{read, then, wordAt}
 use Rattle.semantics.specs.ReadNet.{binaryHead, operatorHead, headOf, headAt, operands, expressionIn}
@@ -97,6 +98,20 @@ module _ {ws : List ℕ} {variables at left : ℕ} where
       }
 
 pub ruleset heads = (needs, words-end, too-many, sixteenth, taken)
+
+-- a constant or a variable as the first word of its expression, fifteen words being left
+module _ {ws : List ℕ} {variables at k u : ℕ} (h : at < length ws) (l : at < 16384) (e : k ≡ kind (getD ws at 0)) (d : u ≡ payload (getD ws at 0)) where
+  pub constant-read : {z : ℤ} → k ≡ 7 → u < 16384 → z ≡ signed (getD ws at 0 % 16384) → IsHead ws variables at mostExpressionWords (Constant z (at + 1) 14)
+  constant-read s j f = taken h l (λ q. omega arith) (constant-word e d l (omega arith) s j f)
+
+  pub constant-stray : k ≡ 7 → 16384 ≤ u → IsHead ws variables at mostExpressionWords (Refused 3 at)
+  constant-stray s j = taken h l (λ q. omega arith) (stray-constant e d s j)
+
+  pub variable-read : k ≡ 8 → u < variables → IsHead ws variables at mostExpressionWords (Variable u (at + 1) 14)
+  variable-read s j = taken h l (λ q. omega arith) (variable-word e d l (omega arith) s j)
+
+  pub variable-missing : k ≡ 8 → variables ≤ u → IsHead ws variables at mostExpressionWords (Refused 3 at)
+  variable-missing s j = taken h l (λ q. omega arith) (missing-variable e d s j)
 
 -- ── An expression by its head ──
 

@@ -2,12 +2,13 @@
 use mathlib.Core.Path.{_≡_, refl}
 use mathlib.Core.List.{List}
 use mathlib.Core.Option.{none, some}
-use Prim.Native.Nat.{ℕ, _+_}
+use Prim.Native.Nat.{ℕ, _+_, _%_, _≤_, _<_}
 use native.Mathlib.Omega.{arith}
 use borrow.Author.Needs.{needs}
 use lib.IntN.{ℤ}
 use lib.ListN.{length, getD}
 use Rattle.semantics.specs.Refusal.{mostExpressionWords}
+use Rattle.semantics.specs.Word.{kind, payload, signed}
 use Rattle.semantics.specs.ReadNet.{readExpression}
 use Rattle.word.specs.declared.number.Number.{Number}
 use Rattle.word.specs.declared.number.Number.the-variants.{Some, None}
@@ -18,6 +19,7 @@ use Rattle.expression.specs.declared.evaluate.Outcome.{Outcome}
 use Rattle.expression.specs.declared.evaluate.Outcome.the-variants.{Gives, Nothing}
 use Rattle.expression.specs.Head.{IsHead}
 use Rattle.expression.specs.Evaluate.{valueOf, lent, valued, unread, evaluatedFrom, outcome, IsOutcome}
+use Rattle.expression.proofs.Heads.{words-end, too-many, constant-read, constant-stray, variable-read, variable-missing}
 use Rattle.expression.proofs.Evaluating.{refused-head, constant-head, variable-head}
 
 -- ── By the outcome ──
@@ -52,3 +54,30 @@ module _ {ws : List ℕ} (bs : List ℕ) {at : ℕ} {t : Head} (x : IsHead ws (l
 
   pub variable-none : {n a l : ℕ} {v : Number} → t ≡ Variable n a l → number v ≡ valueOf (getD bs n 0) → v ≡ None → valued none a ≡ evaluatedFrom (lent bs) (readExpression ws (length bs) at)
   variable-none e d f = no-value {bs = bs} (variable-head {bs = bs} x e d) refl f
+
+-- ── By the word ──
+
+module _ (ws bs : List ℕ) (at : ℕ) where
+  pub ends-whole : length ws ≤ at → unread ≡ evaluatedFrom (lent bs) (readExpression ws (length bs) at)
+  ends-whole h = refused-whole bs (words-end h) refl
+
+  pub limit-whole : at < length ws → 16384 ≤ at → unread ≡ evaluatedFrom (lent bs) (readExpression ws (length bs) at)
+  limit-whole h l = refused-whole bs (too-many h l) refl
+
+  module _ {k u : ℕ} (h : at < length ws) (l : at < 16384) (e : k ≡ kind (getD ws at 0)) (d : u ≡ payload (getD ws at 0)) where
+    pub constant-at : {z : ℤ} → k ≡ 7 → u < 16384 → z ≡ signed (getD ws at 0 % 16384) → valued (some z) (at + 1) ≡ evaluatedFrom (lent bs) (readExpression ws (length bs) at)
+    constant-at s j f = constant-whole bs (constant-read h l e d s j f) refl refl
+
+    pub stray-at : k ≡ 7 → 16384 ≤ u → unread ≡ evaluatedFrom (lent bs) (readExpression ws (length bs) at)
+    stray-at s j = refused-whole bs (constant-stray h l e d s j) refl
+
+    pub missing-at : k ≡ 8 → length bs ≤ u → unread ≡ evaluatedFrom (lent bs) (readExpression ws (length bs) at)
+    missing-at s j = refused-whole bs (variable-missing h l e d s j) refl
+
+    pub variable-at : {v : Number} {y z : ℤ} → k ≡ 8 → u < length bs → number v ≡ valueOf (getD bs u 0) → v ≡ Some z → y ≡ z → valued (some y) (at + 1) ≡ evaluatedFrom (lent bs) (readExpression ws (length bs) at)
+    variable-at s j f g i = variable-value bs (variable-read h l e d s j) refl f g i
+
+    pub unbound-at : {v : Number} → k ≡ 8 → u < length bs → number v ≡ valueOf (getD bs u 0) → v ≡ None → valued none (at + 1) ≡ evaluatedFrom (lent bs) (readExpression ws (length bs) at)
+    unbound-at s j f g = variable-none bs (variable-read h l e d s j) refl f g
+
+pub ruleset alone = (needs, ends-whole, limit-whole, constant-at, stray-at, missing-at, variable-at, unbound-at)

@@ -1,6 +1,7 @@
 // The value of an expression under lent binding words, and where it ends. Rests on head and the crate word.
 use crate::head::Head;
 use crate::head::MOST_EXPRESSION_WORDS;
+use crate::head::MOST_WORDS;
 use crate::head::head_at;
 use word::fields::kind;
 use word::fields::payload;
@@ -84,18 +85,37 @@ fn evaluate_any(words: &[u32], binding: &[u32], at: usize) -> Evaluated
 }
 
 // Evaluates the expression at a position. Variable n is the VALUE word n of the binding; it has no value where another word stands there.
-// A constant or a lone variable, the common case, is answered from its word.
+// A constant or a lone variable, the common case, is told from its word: so short a path goes into the loops that evaluate.
 pub fn evaluate(words: &[u32], binding: &[u32], at: usize) -> Evaluated
     ensures { λ r. ⌜ evaluated r ≡ evaluatedFrom (lent (now (binding .entry))) (readExpression (now (words .entry)) (length (now (binding .entry))) at) ⌝ }
 {
-    match head_at(words, binding.len(), at, MOST_EXPRESSION_WORDS) {
-        Head::Constant(z, at_c, _) => Evaluated::Value(z, at_c),
-        Head::Variable(n, at_v, _) => match value_of(binding[n]) {
-            Number::Some(x) => Evaluated::Value(x, at_v),
-            Number::None => Evaluated::NoValue(at_v),
-        },
-        Head::Binary(_, _, _) => evaluate_any(words, binding, at),
-        Head::Load(_, _) => evaluate_any(words, binding, at),
-        Head::Refused(_, _) => Evaluated::Nothing,
+    if words.len() <= at {
+        return Evaluated::Nothing;
+    }
+    if MOST_WORDS <= at {
+        return Evaluated::Nothing;
+    }
+    let w = words[at];
+    let rest = payload(w);
+    match kind(w) {
+        7 => {
+            if rest < 16384 {
+                Evaluated::Value(signed(w), at + 1)
+            } else {
+                Evaluated::Nothing
+            }
+        }
+        8 => {
+            let n = rest as usize;
+            if binding.len() <= n {
+                return Evaluated::Nothing;
+            }
+            match value_of(binding[n]) {
+                Number::Some(x) => Evaluated::Value(x, at + 1),
+                Number::None => Evaluated::NoValue(at + 1),
+            }
+        }
+        0..=6 | 9..=15 => evaluate_any(words, binding, at),
+        _ => evaluate_any(words, binding, at),
     }
 }

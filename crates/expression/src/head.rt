@@ -6,7 +6,7 @@ ghost use Prim.Native.Nat.{_<_};
 ghost use Rattle.expression.specs.Head.{IsWord, IsHead};
 
 // A net has at most this many words.
-const MOST_WORDS: usize = 16384;
+pub const MOST_WORDS: usize = 16384;
 
 // An expression has at most this many.
 pub const MOST_EXPRESSION_WORDS: usize = 15;
