@@ -16,7 +16,7 @@ use Rattle.semantics.specs.Order.{sameInteger, sameTuple, before}
 use Rattle.semantics.specs.Word.{signed, modulo, valueWord}
 use Rattle.semantics.proofs.Tests.{either, same-test}
 use Rattle.semantics.proofs.Words.{modulo-below, signed-modulo}
-use Rattle.marking.specs.Code.{ofDigit, coloured, IsCode}
+use Rattle.marking.specs.Code.{ofDigit, coloured, IsCode, IsBehind}
 use Rattle.marking.specs.Marked.{valuesAt}
 
 -- ── Digits ──
@@ -181,26 +181,25 @@ values-behind ws (suc n) at =
     let e : at + suc n ≡ at + 1 + n = omega arith in
     rw e (ap (λ (l : List ℤ). signed (getD ws at 0 % 16384) ∷ l) (values-behind ws n (at + 1)))
 
--- the code of the first i of n words
-pub record Coding (ws : List ℕ) (n at i code : ℕ) : Type 0 where
-  pub inside : i ≤ n
-  pub coded : IsCode i (valuesAt ws i at) code
+-- the digit of a word put behind a code
+pub word-behind : (code : ℕ) {w d : ℕ} → ofDigit d ≡ signed (w % 16384) → d < 16384 → IsBehind code w (code * 16384 + d)
+word-behind code {w} {d} e h = record { behind = λ x. code-behind x d (signed (w % 16384)) h e }
 
-pub coding-start : (ws : List ℕ) (n at : ℕ) → Coding ws n at 0 0
+-- the code of no word, and of one word more
+pub code-none : (ws : List ℕ) (at : ℕ) → IsCode 0 (valuesAt ws 0 at) 0
 unfolding valuesAt
-coding-start ws n at = record { inside = omega arith; coded = code-start }
+code-none ws at = code-start
 
-module _ {ws : List ℕ} {n at i code : ℕ} (a : Coding ws n at i code) where
-  pub coding-room : i < n → n ≤ 4 → code < 2 ^ 42
-  coding-room h k = code-room i code (omega arith) (a .coded .small)
+pub code-more : (ws : List ℕ) (n at : ℕ) {code r : ℕ} → IsCode n (valuesAt ws n at) code → IsBehind code (getD ws (at + n) 0) r → IsCode (suc n) (valuesAt ws (suc n) at) r
+code-more ws n at {r = r} x b = subst (λ (c : List ℤ). IsCode (suc n) c r) (values-behind ws n at) (b .behind x)
 
-  pub coding-turn : i < n → {w d : ℕ} → w ≡ getD ws (at + i) 0 → ofDigit d ≡ signed (w % 16384) → d < 16384 → Coding ws n at (i + 1) (code * 16384 + d)
-  coding-turn h {w} {d} e f g =
-      let s : suc i ≡ i + 1 = omega arith in
-      record { inside = omega arith; coded = subst (λ (k : ℕ). IsCode k (valuesAt ws k at) (code * 16384 + d)) s (subst (λ (c : List ℤ). IsCode (suc i) c (code * 16384 + d)) (values-behind ws i at) (code-behind (a .coded) d (signed (getD ws (at + i) 0 % 16384)) g (rw e at f))) }
+pub code-all : (ws : List ℕ) (k at : ℕ) {n r : ℕ} → n ≡ k → IsCode k (valuesAt ws k at) r → IsCode n (valuesAt ws n at) r
+code-all ws k at {r = r} e x = rw e x
 
-  pub coding-end : n ≤ i → IsCode n (valuesAt ws n at) code
-  coding-end h = let l = a .inside in let e : i ≡ n = omega arith in subst (λ (k : ℕ). IsCode k (valuesAt ws k at) code) e (a .coded)
+pub code-one : (ws : List ℕ) (at : ℕ) {r : ℕ} → IsBehind 0 (getD ws at 0) r → IsCode 1 (valuesAt ws 1 at) r
+code-one ws at {r} b =
+    let e : at ≡ at + 0 = omega arith in
+    code-more ws 0 at (code-none ws at) (subst (λ (k : ℕ). IsBehind 0 (getD ws k 0) r) e b)
 
 -- a code of words against another of as many digits
 pub coded-before : {n : ℕ} {c : List ℤ} {a : ℕ} (b : ℕ) → IsCode n c a → b < 16384 ^ n → ltb a b ≡ before c (coloured n b)

@@ -1,11 +1,12 @@
 -- Colours as numbers: a digit of 14 bits for each component, the first one highest. Codes of one width stand to each other as their colours
--- do (proofs/Codes). Rests on nothing.
+-- do (proofs/Codes). Rests on semantics/specs/Word.
 use mathlib.Core.Path.{_≡_}
 use Prim.Native.Nat.{ℕ, zero, suc, _-_, _/_, _%_, _<_, _^_}
 use mathlib.Core.Bool.{cond}
 use mathlib.Core.List.{List, [], _∷_, _++_}
 use lib.Dec.{ltb}
 use lib.IntN.{ℤ, pos, negsuc}
+use Rattle.semantics.specs.Word.{signed}
 
 -- the value of a digit, which is 8,192 less; negsuc n is -(n + 1)
 abbrev pub ofDigit : ℕ → ℤ
@@ -20,3 +21,7 @@ coloured (suc n) code = coloured n (code / 16384) ++ (ofDigit (code % 16384) ∷
 pub record IsCode (n : ℕ) (c : List ℤ) (code : ℕ) : Type 0 where
   pub same : coloured n code ≡ c
   pub small : code < 16384 ^ n
+
+-- a code with the digit of the VALUE word w behind it
+pub record IsBehind (code w r : ℕ) : Type 0 where
+  pub behind : {n : ℕ} {c : List ℤ} → IsCode n c code → IsCode (suc n) (c ++ (signed (w % 16384) ∷ [])) r

@@ -4,7 +4,7 @@ ghost use Prim.Native.Nat.{_≤_, _<_, _+_, _%_, _^_};
 ghost use lib.ListN.{length};
 ghost use Rattle.semantics.specs.Word.{signed};
 ghost use Rattle.semantics.specs.Order.{before, sameTuple};
-ghost use Rattle.marking.specs.Code.{ofDigit, coloured, IsCode};
+ghost use Rattle.marking.specs.Code.{ofDigit, coloured, IsCode, IsBehind};
 ghost use Rattle.marking.specs.Marked.{valuesAt};
 
 // The digit of a VALUE word.
@@ -14,19 +14,36 @@ pub fn digit_of(w: u32) -> u64
     ((w % 16384 + 8192) % 16384) as u64
 }
 
-// The code of n VALUE words.
+// A code with the digit of one VALUE word behind it.
+fn with_digit(code: u64, w: u32) -> u64
+    requires { ⌜ code < 2 ^ 42 ⌝ }
+    ensures { λ r. ⌜ IsBehind code w r ⌝ }
+{
+    code * 16384 + digit_of(w)
+}
+
+// The code of n VALUE words. There are at most four, put together without a loop, since bisection asks for little else.
 pub fn code_at(words: &[u32], at: usize, n: usize) -> u64
     requires { ⌜ n ≤ 4 ⌝ }
     requires { ⌜ at + n ≤ length (now words) ⌝ }
     ensures { λ r. ⌜ IsCode n (valuesAt (now (words .entry)) n at) r ⌝ }
 {
-    let mut code = 0u64;
-    let mut i = 0;
-    while i < n {
-        code = code * 16384 + digit_of(words[at + i]);
-        i += 1;
+    if n == 0 {
+        return 0;
     }
-    code
+    let one = with_digit(0, words[at]);
+    if n == 1 {
+        return one;
+    }
+    let two = with_digit(one, words[at + 1]);
+    if n == 2 {
+        return two;
+    }
+    let three = with_digit(two, words[at + 2]);
+    if n == 3 {
+        return three;
+    }
+    with_digit(three, words[at + 3])
 }
 
 // Whether the n VALUE words at a position stand before the colour of a code.

@@ -1,47 +1,55 @@
--- `marking::code::code_at` meets its contract: a digit is put behind the code of the words before it.
-use mathlib.Core.Path.{refl}
-use Prim.Native.Nat.{_-_}
-use Rattle.marking.proofs.Codes.{Coding, coding-start, coding-room, coding-turn, coding-end}
-use native.Mathlib.Omega.{arith}
+-- `marking::code::code_at` meets its contract: the digit of each word is put behind the code of the words before it.
+use Rattle.marking.proofs.Codes.{code-none, code-one, code-more, code-all, code-room}
 use borrow.Author.Needs.{needs}
+use native.Mathlib.Omega.{arith}
 use Rattle.marking.proofs.code.code_at.Statement.{statement}
 use Rattle.marking.proofs.code.code_at.Tie as tie
 
-abbrev Inv-loop : tie.InvT-loop
-Inv-loop words at n code₀ i₀ code i = Coding words n at i code
+returns : tie.Need-returns
+returns c = code-all _ 0 _ (c .if1 .taken) (code-none _ _)
 
-abbrev μ-loop : tie.MeasureT-loop
-μ-loop words at n code₀ i₀ code i = n - i
+returns-2 : tie.Need-returns-2
+returns-2 c = code-all _ 1 _ (c .if2 .taken) (code-one _ _ (c .before .with-digit .ensures))
 
-loop-holds : tie.Need-loop-holds Inv-loop μ-loop
-loop-holds c = coding-start _ _ _
+with-digit-requires-2 : tie.Need-with-digit-requires-2
+with-digit-requires-2 c κs = code-room 1 _ (omega arith) ((code-one (c .before .before .before .before .before .before .args .words .now) (c .before .before .before .before .before .before .args .at) (c .before .before .with-digit .ensures)) .small)
 
-mul-code : tie.Need-mul-code Inv-loop μ-loop
-mul-code c = let r = coding-room (c .before .loop .inv) (c .loop-test .taken) (c .before .before .before .pre .0) in omega arith
+returns-3 : tie.Need-returns-3
+returns-3 c = code-all _ 2 _ (c .if3 .taken) (code-more _ 1 _ (code-one _ _ (c .before .before .before .before .with-digit .ensures)) (c .before .with-digit2 .ensures))
 
-add-code : tie.Need-add-code Inv-loop μ-loop
-add-code c = let r = coding-room (c .before .before .before .loop .inv) (c .before .before .loop-test .taken) (c .before .before .before .before .before .pre .0) in omega arith
+with-digit-requires-3 : tie.Need-with-digit-requires-3
+with-digit-requires-3 c κs = code-room 2 _ (omega arith) ((code-more (c .before .before .before .before .before .before .before .before .before .args .words .now) 1 (c .before .before .before .before .before .before .before .before .before .args .at) (code-one (c .before .before .before .before .before .before .before .before .before .args .words .now) (c .before .before .before .before .before .before .before .before .before .args .at) (c .before .before .before .before .before .with-digit .ensures)) (c .before .before .with-digit2 .ensures)) .small)
 
-loop-again : tie.Need-loop-again Inv-loop μ-loop
-loop-again c = coding-turn (c .before .before .before .loop .inv) (c .before .before .loop-test .taken) refl (c .digit-of .ensures .0) (c .digit-of .ensures .1)
+returns-4 : tie.Need-returns-4
+returns-4 c = code-all _ 3 _ (c .if4 .taken) (code-more _ 2 _ (code-more _ 1 _ (code-one _ _ (c .before .before .before .before .before .before .before .with-digit .ensures)) (c .before .before .before .before .with-digit2 .ensures)) (c .before .with-digit3 .ensures))
 
-returns : tie.Need-returns Inv-loop μ-loop
-returns c = coding-end (c .before .loop .inv) (c .loop-test .left)
+with-digit-requires-4 : tie.Need-with-digit-requires-4
+with-digit-requires-4 c κs = code-room 3 _ (omega arith) ((code-more (c .before .before .before .before .before .before .before .before .before .before .before .before .args .words .now) 2 (c .before .before .before .before .before .before .before .before .before .before .before .before .args .at) (code-more (c .before .before .before .before .before .before .before .before .before .before .before .before .args .words .now) 1 (c .before .before .before .before .before .before .before .before .before .before .before .before .args .at) (code-one (c .before .before .before .before .before .before .before .before .before .before .before .before .args .words .now) (c .before .before .before .before .before .before .before .before .before .before .before .before .args .at) (c .before .before .before .before .before .before .before .before .with-digit .ensures)) (c .before .before .before .before .before .with-digit2 .ensures)) (c .before .before .with-digit3 .ensures)) .small)
+
+returns-5 : tie.Need-returns-5
+returns-5 c = code-all _ 4 _ (omega arith) (code-more _ 3 _ (code-more _ 2 _ (code-more _ 1 _ (code-one _ _ (c .before .before .before .before .before .before .before .before .before .with-digit .ensures)) (c .before .before .before .before .before .before .with-digit2 .ensures)) (c .before .before .before .with-digit3 .ensures)) (c .with-digit4 .ensures))
 
 pub code-at-spec : {M : Type 1} → statement M
 code-at-spec =
     tie.close
     (tie.spec
-    Inv-loop
-    μ-loop
-    loop-holds
-    mul-code
-    (λ c. omega arith)
-    (λ c. omega arith)
-    (λ c. omega arith)
+    returns
+    (λ c. search needs)
+    (λ c. search needs)
     (λ c κs. search needs)
-    add-code
-    (λ c. omega arith)
-    (λ c. omega arith)
-    loop-again
-    returns)
+    returns-2
+    (λ c. search needs)
+    (λ c. search needs)
+    (λ c. search needs)
+    with-digit-requires-2
+    returns-3
+    (λ c. search needs)
+    (λ c. search needs)
+    (λ c. search needs)
+    with-digit-requires-3
+    returns-4
+    (λ c. search needs)
+    (λ c. search needs)
+    (λ c. search needs)
+    with-digit-requires-4
+    returns-5)
