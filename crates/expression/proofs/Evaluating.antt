@@ -2,14 +2,15 @@
 use mathlib.Core.Path.{_≡_, refl}
 use mathlib.Core.List.{List}
 use mathlib.Core.Option.{Option, bind}
-use Prim.Native.Nat.{ℕ, _+_, _-_, _<_}
+use Prim.Native.Nat.{ℕ, _+_, _*_, _-_, _<_}
 use native.Mathlib.Omega.{arith}
 use borrow.Author.Needs.{needs}
 use lib.IntN.{ℤ}
 use lib.ListN.{length, getD}
 use Rattle.semantics.specs.Expression.{Operator, Expression, Environment, binary, load, operate, loadOf, houseTable, value}
 use Rattle.semantics.specs.Reading.{Reading, read, refused, then, Reader}
-use Rattle.semantics.specs.ReadNet.{expressionIn}
+use Rattle.semantics.specs.ReadNet.{binaryHead, expressionIn}
+use Rattle.semantics.specs.ReadNet.{operands as operandsOf}
 use Rattle.word.specs.declared.number.Number.{Number}
 use Rattle.word.specs.declared.number.Number.the-variants.{Some}
 use Rattle.word.specs.Number.{number, operatorOf}
@@ -19,7 +20,7 @@ use Rattle.expression.specs.declared.head.Head.the-variants.{Constant, V
 use Rattle.expression.specs.declared.evaluate.Outcome.{Outcome}
 use Rattle.expression.specs.declared.evaluate.Outcome.the-variants.{Gives, Nothing}
 use Rattle.expression.specs.Head.{Onward, IsHead}
-use Rattle.expression.specs.Evaluate.{valueOf, lent, Valuation, valued, unread, evaluatedFrom, outcome, OutcomeOnward, IsOutcome}
+use Rattle.expression.specs.Evaluate.{valueOf, lent, Valuation, valued, unread, evaluatedFrom, outcome, OutcomeOnward, IsOutcome, IsTwo, IsLoaded}
 use Rattle.expression.proofs.Heads.{onward-more, head-onward, headed, in-range, load-falls, first-falls}
 
 -- ── Values of readings ──
@@ -58,6 +59,10 @@ lent-at bs n h = rw (at-getD bs n h)
 outcome-onward : {ws bs : List ℕ} {at left : ℕ} {r s : Outcome} → IsOutcome ws bs at left r → r ≡ s → OutcomeOnward ws at left s
 outcome-onward x e = rw e at (x .onward)
 
+outcome-more : {ws : List ℕ} {at left a l : ℕ} → Onward ws at left a l → (r : Outcome) → OutcomeOnward ws a l r → OutcomeOnward ws at left r
+outcome-more q (Gives x next rest) p = onward-more q p
+outcome-more q Nothing p = tt
+
 module _ {ws bs : List ℕ} {at left : ℕ} {t : Head} (x : IsHead ws (length bs) at left t) where
   pub refused-head : {n p : ℕ} → t ≡ Refused n p → IsOutcome ws bs at left Nothing
   refused-head e = record { same = λ rounds stop h s. rw (headed x e rounds stop h s); onward = tt }
@@ -72,56 +77,78 @@ module _ {ws bs : List ℕ} {at left : ℕ} {t : Head} (x : IsHead ws (length bs
       let q = head-onward x e in
       record { same = λ rounds stop h s. rw (headed x e rounds stop h s, d, lent-at bs n (q .0)); onward = q .1 }
 
-  module _ {a l : ℕ} {r : Outcome} (e : t ≡ Load a l) (y : IsOutcome ws bs a l r) where
-    pub load-unread : r ≡ Nothing → IsOutcome ws bs at left Nothing
-    load-unread d =
-        let q : Onward ws at left a l = head-onward x e in
-        record {
-          same = λ rounds stop h s. rw (headed x e rounds stop h s, from-load (lent bs), ← y .same (rounds - 1) stop (omega arith) (omega arith), d);
-          onward = tt;
-        }
+  -- what follows an operator leads onward from it
+  pub load-head : {a l : ℕ} {r : Outcome} → t ≡ Load a l → IsLoaded ws bs a l r → IsOutcome ws bs at left r
+  load-head {a} {l} {r} e y =
+      let q : Onward ws at left a l = head-onward x e in
+      record {
+        same = λ rounds stop h s. rw (headed x e rounds stop h s) (y .same (rounds - 1) stop (omega arith) (omega arith));
+        onward = outcome-more q r (y .onward);
+      }
 
-    pub load-operand : {u v : Number} {b m : ℕ} → r ≡ Gives u b m → number v ≡ bind (number u) (loadOf houseTable) → IsOutcome ws bs at left (Gives v b m)
-    load-operand {b = b} {m = m} d i =
-        let q : Onward ws at left a l = head-onward x e in
-        let p : Onward ws a l b m = outcome-onward y d in
-        record {
-          same = λ rounds stop h s. rw (headed x e rounds stop h s, from-load (lent bs), ← y .same (rounds - 1) stop (omega arith) (omega arith), d, i);
-          onward = onward-more q p;
-        }
+  pub binary-head : {k a l : ℕ} {r : Outcome} → t ≡ Binary k a l → IsTwo ws bs k a l r → IsOutcome ws bs at left r
+  binary-head {k} {a} {l} {r} e y =
+      let q : Onward ws at left a l = head-onward x e in
+      record {
+        same = λ rounds stop h s. rw (headed x e rounds stop h s) (y .same (rounds - 1) stop (omega arith) (omega arith));
+        onward = outcome-more q r (y .onward);
+      }
 
-  module _ {k a l : ℕ} {r : Outcome} (e : t ≡ Binary k a l) (y : IsOutcome ws bs a l r) where
-    pub first-unread : r ≡ Nothing → IsOutcome ws bs at left Nothing
-    first-unread d =
-        let q : Onward ws at left a l = head-onward x e in
-        record {
-          same = λ rounds stop h s. rw (headed x e rounds stop h s, from-both (lent bs) (operatorOf k) (expressionIn (rounds - 1) ws (length bs) stop), ← y .same (rounds - 1) stop (omega arith) (omega arith), d);
-          onward = tt;
-        }
+-- ── Operands ──
 
-    module _ {u : Number} {b m : ℕ} (d : r ≡ Gives u b m) where
-      -- the second operand has fewer words left; n is the measure
-      pub second-falls : {n : ℕ} → left ≡ n → m < n
-      second-falls i =
-          let q : Onward ws at left a l = head-onward x e in
-          let p : Onward ws a l b m = outcome-onward y d in
-          omega arith
+module _ {ws bs : List ℕ} {at left : ℕ} {r : Outcome} (y : IsOutcome ws bs at left r) where
+  pub load-unread : r ≡ Nothing → IsLoaded ws bs at left Nothing
+  load-unread d =
+      record { same = λ rounds stop h s. rw (from-load (lent bs), ← y .same rounds stop h s, d); onward = tt }
 
-      module _ {s : Outcome} (z : IsOutcome ws bs b m s) where
-        both : (rounds stop : ℕ) → left < rounds → at + left ≡ stop → evaluatedFrom (lent bs) (expressionIn rounds ws (length bs) stop at) ≡ thenValued (outcome s) (λ v next. valued (operated (operatorOf k) (number u) v) next)
-        both rounds stop h i =
-            let q : Onward ws at left a l = head-onward x e in
-            let p : Onward ws a l b m = outcome-onward y d in
-            rw (headed x e rounds stop h i, from-both (lent bs) (operatorOf k) (expressionIn (rounds - 1) ws (length bs) stop), ← y .same (rounds - 1) stop (omega arith) (omega arith), d, ← z .same (rounds - 1) stop (omega arith) (omega arith))
+  pub load-operand : {u v : Number} {b m : ℕ} → r ≡ Gives u b m → number v ≡ bind (number u) (loadOf houseTable) → IsLoaded ws bs at left (Gives v b m)
+  load-operand d i =
+      record { same = λ rounds stop h s. rw (from-load (lent bs), ← y .same rounds stop h s, d, i); onward = outcome-onward y d }
 
-        pub second-unread : s ≡ Nothing → IsOutcome ws bs at left Nothing
-        second-unread f = record { same = λ rounds stop h i. rw (both rounds stop h i, f); onward = tt }
+  pub first-unread : (k : ℕ) → r ≡ Nothing → IsTwo ws bs k at left Nothing
+  first-unread k d =
+      record {
+        same = λ rounds stop h s. rw (from-both (lent bs) (operatorOf k) (expressionIn rounds ws (length bs) stop), ← y .same rounds stop h s, d);
+        onward = tt;
+      }
 
-        pub operands : {v w : Number} {c n : ℕ} → s ≡ Gives v c n → number w ≡ operated (operatorOf k) (number u) (number v) → IsOutcome ws bs at left (Gives w c n)
-        operands {c = c} {n = n} f j =
-            let q : Onward ws at left a l = head-onward x e in
-            let p : Onward ws a l b m = outcome-onward y d in
-            let o : Onward ws b m c n = outcome-onward z f in
-            record { same = λ rounds stop h i. rw (both rounds stop h i, f, j); onward = onward-more (onward-more q p) o }
+  module _ {u : Number} {b m : ℕ} (d : r ≡ Gives u b m) where
+    -- the second operand has fewer words left
+    pub second-falls : m < left
+    second-falls =
+        let p : Onward ws at left b m = outcome-onward y d in
+        omega arith
 
-pub ruleset evaluating = (needs, refused-head, constant-head, variable-head, in-range, load-unread, load-operand, first-unread, second-unread, operands, load-falls, first-falls, second-falls)
+    module _ (k : ℕ) {s : Outcome} (z : IsOutcome ws bs b m s) where
+      both : (rounds stop : ℕ) → left < rounds → at + left ≡ stop → evaluatedFrom (lent bs) (operandsOf (expressionIn rounds ws (length bs) stop) (binaryHead (operatorOf k)) at) ≡ thenValued (outcome s) (λ v next. valued (operated (operatorOf k) (number u) v) next)
+      both rounds stop h i =
+          let p : Onward ws at left b m = outcome-onward y d in
+          rw (from-both (lent bs) (operatorOf k) (expressionIn rounds ws (length bs) stop), ← y .same rounds stop h i, d, ← z .same rounds stop (omega arith) (omega arith))
+
+      pub second-unread : s ≡ Nothing → IsTwo ws bs k at left Nothing
+      second-unread f = record { same = λ rounds stop h i. rw (both rounds stop h i, f); onward = tt }
+
+      pub operands : {v w : Number} {c n : ℕ} → s ≡ Gives v c n → number w ≡ operated (operatorOf k) (number u) (number v) → IsTwo ws bs k at left (Gives w c n)
+      operands {c = c} {n = n} f j =
+          let p : Onward ws at left b m = outcome-onward y d in
+          let o : Onward ws b m c n = outcome-onward z f in
+          record { same = λ rounds stop h i. rw (both rounds stop h i, f, j); onward = onward-more p o }
+
+-- ── The measure: twice the words left, and one more behind an operator ──
+
+module _ {ws : List ℕ} {variables at left a l n : ℕ} {t : Head} (x : IsHead ws variables at left t) where
+  pub load-measure : t ≡ Load a l → 2 * left ≡ n → 2 * l + 1 < n
+  load-measure e d = let q = load-falls x e refl in omega arith
+
+  pub binary-measure : {k : ℕ} → t ≡ Binary k a l → 2 * left ≡ n → 2 * l + 1 < n
+  binary-measure e d = let q = first-falls x e refl in omega arith
+
+pub operand-measure : (left : ℕ) {n : ℕ} → 2 * left + 1 ≡ n → 2 * left < n
+operand-measure left d = omega arith
+
+pub second-measure : {ws bs : List ℕ} {at left b m n : ℕ} {r : Outcome} {u : Number} → IsOutcome ws bs at left r → r ≡ Gives u b m → 2 * left + 1 ≡ n → 2 * m < n
+second-measure y e d = let q = second-falls y e in omega arith
+
+pub ruleset evaluating = (needs, refused-head, constant-head, variable-head, in-range, load-head, binary-head, load-measure, binary-measure)
+
+pub ruleset operating = (needs, load-unread, load-operand, first-unread, second-unread, operands, operand-measure, second-measure)

@@ -11,8 +11,8 @@ use lib.ListN.{length, getElem?}
 use Rattle.semantics.specs.Word.{kind, payload, only, signed}
 use Rattle.semantics.specs.Expression.{Expression, Environment, given, houseTable, value}
 use Rattle.semantics.specs.Reading.{Reading, read, refused}
-use Rattle.semantics.specs.ReadNet.{expressionIn}
-use Rattle.word.specs.Number.{number}
+use Rattle.semantics.specs.ReadNet.{binaryHead, loadHead, operands, expressionIn}
+use Rattle.word.specs.Number.{number, operatorOf}
 use Rattle.expression.specs.declared.evaluate.Evaluated.{Evaluated}
 use Rattle.expression.specs.declared.evaluate.Evaluated.the-variants.{Value, NoValue, Nothing}
 use Rattle.expression.specs.declared.evaluate.Outcome.{Outcome}
@@ -55,4 +55,14 @@ OutcomeOnward ws at left Unread = Unit {0}
 -- the value of the reading by any number of rounds above the words left
 pub record IsOutcome (ws bs : List ℕ) (at left : ℕ) (r : Outcome) : Type 0 where
   pub same : (rounds stop : ℕ) → left < rounds → at + left ≡ stop → outcome r ≡ evaluatedFrom (lent bs) (expressionIn rounds ws (length bs) stop at)
+  pub onward : OutcomeOnward ws at left r
+
+-- the same of what follows an operator: two operands
+pub record IsTwo (ws bs : List ℕ) (k at left : ℕ) (r : Outcome) : Type 0 where
+  pub same : (rounds stop : ℕ) → left < rounds → at + left ≡ stop → outcome r ≡ evaluatedFrom (lent bs) (operands (expressionIn rounds ws (length bs) stop) (binaryHead (operatorOf k)) at)
+  pub onward : OutcomeOnward ws at left r
+
+-- and of what follows a load: one
+pub record IsLoaded (ws bs : List ℕ) (at left : ℕ) (r : Outcome) : Type 0 where
+  pub same : (rounds stop : ℕ) → left < rounds → at + left ≡ stop → outcome r ≡ evaluatedFrom (lent bs) (operands (expressionIn rounds ws (length bs) stop) loadHead at)
   pub onward : OutcomeOnward ws at left r

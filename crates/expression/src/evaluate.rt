@@ -13,7 +13,7 @@ ghost use mathlib.Core.Path.{_≡_};
 ghost use lib.ListN.{length};
 ghost use Rattle.semantics.specs.ReadNet.{readExpression};
 ghost use Rattle.word.specs.Number.{number};
-ghost use Rattle.expression.specs.Evaluate.{valueOf, lent, evaluated, evaluatedFrom, IsOutcome};
+ghost use Rattle.expression.specs.Evaluate.{valueOf, lent, evaluated, evaluatedFrom, IsOutcome, IsTwo, IsLoaded};
 
 // The value of a VALUE word; any other word has none.
 pub fn value_of(w: u32) -> Number
@@ -45,22 +45,32 @@ fn evaluate_within(words: &[u32], binding: &[u32], at: usize, left: usize) -> Ou
     match head_at(words, binding.len(), at, left) {
         Head::Constant(z, at_c, left_c) => Outcome::Gives(Number::Some(z), at_c, left_c),
         Head::Variable(n, at_v, left_v) => Outcome::Gives(value_of(binding[n]), at_v, left_v),
-        Head::Binary(code, at_a, left_a) => match evaluate_within(words, binding, at_a, left_a) {
-            Outcome::Gives(x, at_b, left_b) => match evaluate_within(words, binding, at_b, left_b) {
-                Outcome::Gives(y, at_e, left_e) => Outcome::Gives(
-                    operate(code, x, y),
-                    at_e,
-                    left_e,
-                ),
-                Outcome::Nothing => Outcome::Nothing,
-            },
-            Outcome::Nothing => Outcome::Nothing,
-        },
-        Head::Load(at_l, left_l) => match evaluate_within(words, binding, at_l, left_l) {
-            Outcome::Gives(depth, at_f, left_f) => Outcome::Gives(apply_load(depth), at_f, left_f),
-            Outcome::Nothing => Outcome::Nothing,
-        },
+        Head::Binary(code, at_a, left_a) => evaluate_two(words, binding, code, at_a, left_a),
+        Head::Load(at_l, left_l) => evaluate_load(words, binding, at_l, left_l),
         Head::Refused(_, _) => Outcome::Nothing,
+    }
+}
+
+// The operator of a code on the two expressions at a position, which may take `left` words.
+fn evaluate_two(words: &[u32], binding: &[u32], code: u32, at: usize, left: usize) -> Outcome
+    ensures { λ r. ⌜ IsTwo (now (words .entry)) (now (binding .entry)) code at left r ⌝ }
+{
+    match evaluate_within(words, binding, at, left) {
+        Outcome::Gives(x, at_b, left_b) => match evaluate_within(words, binding, at_b, left_b) {
+            Outcome::Gives(y, at_e, left_e) => Outcome::Gives(operate(code, x, y), at_e, left_e),
+            Outcome::Nothing => Outcome::Nothing,
+        },
+        Outcome::Nothing => Outcome::Nothing,
+    }
+}
+
+// The load at the depth that the expression at a position tells, which may take `left` words.
+fn evaluate_load(words: &[u32], binding: &[u32], at: usize, left: usize) -> Outcome
+    ensures { λ r. ⌜ IsLoaded (now (words .entry)) (now (binding .entry)) at left r ⌝ }
+{
+    match evaluate_within(words, binding, at, left) {
+        Outcome::Gives(depth, next, rest) => Outcome::Gives(apply_load(depth), next, rest),
+        Outcome::Nothing => Outcome::Nothing,
     }
 }
 
