@@ -23,11 +23,11 @@ use Rattle.semantics.proofs.Partial.{member-append}
 use Rattle.expression.specs.declared.read.Skipped.{Skipped}
 use Rattle.expression.specs.declared.read.Skipped.the-variants.{Next, Refused}
 use Rattle.expression.specs.Skip.{skipped}
-use Rattle.net.specs.declared.take.Taken.{Taken}
-use Rattle.net.specs.declared.take.Taken.the-variants.{Word, Refused as TakeRefused}
-use Rattle.net.specs.Skim.{fitsKind, skimExpression}
+use Rattle.kinds.specs.declared.take.Taken.{Taken}
+use Rattle.kinds.specs.declared.take.Taken.the-variants.{Word, Refused as TakeRefused}
+use Rattle.kinds.specs.Taken.{fitsKind, taken, Takes, IsTaken}
+use Rattle.net.specs.Skim.{skimExpression}
 use Rattle.net.proofs.Structures.{next-fits}
-use Rattle.net.specs.Index.{taken, Takes, IsTaken}
 use Rattle.accept.specs.declared.bind.Bound.{Bound}
 use Rattle.accept.specs.Fitness.{after, unboundOf, loneAt, loneFrom, matchAt}
 use Rattle.accept.specs.Plan.{marked, nonEmpty, IsBound}

@@ -17,14 +17,15 @@ use Rattle.semantics.specs.ReadNet.{readElement, sortOf}
 use Rattle.semantics.proofs.Tests.{false-true}
 use Rattle.expression.specs.declared.read.Skipped.{Skipped}
 use Rattle.expression.specs.declared.read.Skipped.the-variants.{Next, Refused}
-use Rattle.net.specs.Skim.{fitsKind, Outline, skimTransition, skimTransitions}
+use Rattle.kinds.specs.Taken.{fitsKind, taken, IsTaken}
+use Rattle.net.specs.Skim.{Outline, skimTransition, skimTransitions}
 use Rattle.semantics.specs.Word.{bits}
 use Rattle.net.proofs.Loops.{Collected, collected-start, collected-goes, collected-stops, collected-end, take-set}
 use Rattle.net.proofs.Transitions.{skips}
-use Rattle.net.specs.declared.take.Taken.{Taken}
-use Rattle.net.specs.declared.take.Taken.the-variants.{Word, Refused as TakeRefused}
+use Rattle.kinds.specs.declared.take.Taken.{Taken}
+use Rattle.kinds.specs.declared.take.Taken.the-variants.{Word, Refused as TakeRefused}
 use Rattle.net.specs.declared.index.Parts.{Parts}
-use Rattle.net.specs.Index.{taken, IsTaken, upTo, AreParts}
+use Rattle.net.specs.Index.{upTo, AreParts}
 use Rattle.accept.specs.declared.bind.Bound.{Bound}
 use Rattle.accept.specs.declared.element.Sort.{Sort}
 use Rattle.accept.specs.declared.element.Sort.the-variants.{Match, Solve, Range}

@@ -26,7 +26,8 @@ use Rattle.semantics.proofs.Members.{at-member, map-at}
 use Rattle.expression.specs.Skip as skip
 use Rattle.expression.proofs.Spelled.{HeadWord, headOfTree}
 use Rattle.expression.proofs.Laws.{expression-short, variables-flat, first-word, constant-alone}
-use Rattle.net.specs.Skim.{changed, fitsKind, outline, skimTransition, width}
+use Rattle.kinds.specs.Taken.{fitsKind}
+use Rattle.net.specs.Skim.{changed, outline, skimTransition, width}
 use Rattle.net.proofs.Skimming.{several-length, widths-at, skim-transition}
 use Rattle.net.proofs.Located.{At, Parts, transition-parts}
 use Rattle.accept.specs.Fitness.{after, loneAt, loneFrom, matchAt, allBound, firstOf, solveAt, atMember, bindsAt, faultFrom, firstFault, faultAmong}

@@ -19,10 +19,10 @@ use Rattle.expression.specs.declared.read.Skipped.{Skipped}
 use Rattle.expression.specs.declared.read.Skipped.the-variants.{Next, Refused}
 use Rattle.expression.specs.Skip.{skipped, Skips}
 use Rattle.expression.proofs.Laws.{variablePasses}
-use Rattle.net.specs.declared.take.Taken.{Taken}
-use Rattle.net.specs.declared.take.Taken.the-variants.{Word, Refused as TakeRefused}
-use Rattle.net.specs.Skim.{fitsKind, skimExpression}
-use Rattle.net.specs.Index.{taken, IsTaken}
+use Rattle.kinds.specs.declared.take.Taken.{Taken}
+use Rattle.kinds.specs.declared.take.Taken.the-variants.{Word, Refused as TakeRefused}
+use Rattle.kinds.specs.Taken.{fitsKind, taken, IsTaken}
+use Rattle.net.specs.Skim.{skimExpression}
 use Rattle.net.proofs.Structures.{next-fits}
 use Rattle.accept.specs.declared.bind.Bound.{Bound}
 use Rattle.accept.specs.Fitness.{loneAt, allBound, solvedAt, firstOf, solveAt}

@@ -14,7 +14,8 @@ use Rattle.semantics.specs.Net.{Sort, match, solve, range, Element}
 use Rattle.semantics.specs.ReadNet.{readElement}
 use Rattle.semantics.specs.Plan.{member, everyBelow, fitOr}
 use Rattle.expression.proofs.Laws.{variablePasses}
-use Rattle.net.specs.Skim.{fitsKind, skimExpression, Outline, skimTransition}
+use Rattle.kinds.specs.Taken.{fitsKind}
+use Rattle.net.specs.Skim.{skimExpression, Outline, skimTransition}
 
 -- what follows a reading that succeeds
 abbrev pub after : {A : Type 0} → Reading A → (A → ℕ → List ℕ) → List ℕ

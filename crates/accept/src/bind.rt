@@ -1,8 +1,8 @@
 // The variables that a match binds, told from the words of its arc.
 use expression::read::Skipped;
 use expression::read::skip_expression;
-use net::take::Taken;
-use net::take::take;
+use kinds::take::Taken;
+use kinds::take::take;
 ghost use Prim.Native.Nat.{_≤_};
 ghost use Rattle.accept.specs.Fitness.{unboundOf, loneAt, loneFrom, matchAt};
 ghost use Rattle.accept.specs.Plan.{marked, IsBound};

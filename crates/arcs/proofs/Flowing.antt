@@ -17,10 +17,9 @@ use Rattle.semantics.specs.Net.{rangesAt}
 use Rattle.semantics.specs.Enabling.{flowBy, flow}
 use Rattle.semantics.proofs.Tests.{false-true, either}
 use Rattle.expression.specs.Evaluate.{lent}
-use Rattle.net.specs.declared.take.Taken.{Taken}
-use Rattle.net.specs.declared.take.Taken.the-variants.{Word, Refused}
-use Rattle.net.specs.Skim.{fitsKind}
-use Rattle.net.specs.Index.{taken, IsTaken}
+use Rattle.kinds.specs.declared.take.Taken.{Taken}
+use Rattle.kinds.specs.declared.take.Taken.the-variants.{Word, Refused}
+use Rattle.kinds.specs.Taken.{fitsKind, taken, IsTaken}
 use Rattle.net.specs.Places.{rangesFrom, widthAt, placesAt, PlacesFit}
 use Rattle.net.proofs.Structures.{stricter}
 use Rattle.net.proofs.Placed.{places-length, width-at, ranges-at, fits-at}

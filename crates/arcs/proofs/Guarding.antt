@@ -16,10 +16,9 @@ use Rattle.semantics.specs.Reading.{Reading, read, refused, then, word}
 use Rattle.semantics.specs.ReadNet.{readExpression, relationOf, readConjunct}
 use Rattle.semantics.specs.Enabling.{related, holds}
 use Rattle.expression.specs.Evaluate.{lent}
-use Rattle.net.specs.declared.take.Taken.{Taken}
-use Rattle.net.specs.declared.take.Taken.the-variants.{Word, Refused}
-use Rattle.net.specs.Skim.{fitsKind}
-use Rattle.net.specs.Index.{taken, IsTaken}
+use Rattle.kinds.specs.declared.take.Taken.{Taken}
+use Rattle.kinds.specs.declared.take.Taken.the-variants.{Word, Refused}
+use Rattle.kinds.specs.Taken.{fitsKind, taken, IsTaken}
 use Rattle.arcs.specs.Flow.{conjunctHolds, guardAt}
 use Rattle.arcs.proofs.Evaluating.{Valued, Unread}
 

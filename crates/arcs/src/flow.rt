@@ -2,10 +2,10 @@
 // colour's code.
 use expression::evaluate::Evaluated;
 use expression::evaluate::evaluate;
+use kinds::take::Taken;
+use kinds::take::take;
 use marking::code::digit_of;
 use marking::range::in_range;
-use net::take::Taken;
-use net::take::take;
 use word::fields::payload;
 use word::fields::value_word;
 ghost use mathlib.Core.Path.{_≡_};

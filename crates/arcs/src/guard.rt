@@ -1,8 +1,8 @@
 // Guards, told from the words of their conjuncts under lent binding words.
 use expression::evaluate::Evaluated;
 use expression::evaluate::evaluate;
-use net::take::Taken;
-use net::take::take;
+use kinds::take::Taken;
+use kinds::take::take;
 use word::number::related;
 ghost use mathlib.Core.Path.{_≡_};
 ghost use lib.ListN.{length};

@@ -1,8 +1,8 @@
 // The value of an expression under lent binding words, and where it ends. Rests on head and the crate word.
 use crate::head::Head;
 use crate::head::MOST_EXPRESSION_WORDS;
-use crate::head::MOST_WORDS;
 use crate::head::head_at;
+use word::fields::MOST_WORDS;
 use word::fields::kind;
 use word::fields::payload;
 use word::fields::signed;

@@ -1,12 +1,10 @@
 // The first word of an expression: what it is, the position after it and the words left. Rests on the crate word.
+use word::fields::MOST_WORDS;
 use word::fields::kind;
 use word::fields::payload;
 use word::fields::signed;
 ghost use Prim.Native.Nat.{_<_};
 ghost use Rattle.expression.specs.Head.{IsWord, IsHead};
-
-// A net has at most this many words.
-pub const MOST_WORDS: usize = 16384;
 
 // An expression has at most this many.
 pub const MOST_EXPRESSION_WORDS: usize = 15;

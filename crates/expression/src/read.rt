@@ -1,8 +1,8 @@
 // An expression passed over: where it ends, or its refusal. Rests on head.
 use crate::head::Head;
 use crate::head::MOST_EXPRESSION_WORDS;
-use crate::head::MOST_WORDS;
 use crate::head::head_at;
+use word::fields::MOST_WORDS;
 use word::fields::kind;
 use word::fields::payload;
 ghost use mathlib.Core.Path.{_≡_};

@@ -19,10 +19,10 @@ use Rattle.semantics.proofs.Spans.{Span, then-read, read-same, word-read, drop-
 use Rattle.expression.specs.declared.read.Skipped.{Skipped}
 use Rattle.expression.specs.declared.read.Skipped.the-variants.{Next, Refused}
 use Rattle.expression.specs.Skip.{forget, skipped}
-use Rattle.net.specs.declared.take.Taken.{Taken}
-use Rattle.net.specs.declared.take.Taken.the-variants.{Word, Refused as TakeRefused}
-use Rattle.net.specs.Skim.{changed, fitsKind}
-use Rattle.net.specs.Index.{IsTaken}
+use Rattle.kinds.specs.declared.take.Taken.{Taken}
+use Rattle.kinds.specs.declared.take.Taken.the-variants.{Word, Refused as TakeRefused}
+use Rattle.kinds.specs.Taken.{fitsKind, IsTaken}
+use Rattle.net.specs.Skim.{changed}
 use Rattle.net.specs.Places.{rangesFrom, widthAt, placesAt, PlacesFit}
 use Rattle.net.proofs.Placed.{places-length, ranges-at, fits-at}
 use Rattle.net.proofs.Structures.{stricter, word-refused, word-taken, next-fits}

@@ -14,10 +14,9 @@ use Rattle.semantics.specs.Word.{signed, Range}
 use Rattle.semantics.specs.Reading.{Reading, read, refused, then, demand, word, valuesIn}
 use Rattle.word.specs.Fields.{rangeWord}
 use Rattle.expression.specs.Skip.{forget}
-use Rattle.net.specs.declared.take.Taken.{Taken}
-use Rattle.net.specs.declared.take.Taken.the-variants.{Word, Refused as TakeRefused}
-use Rattle.net.specs.Skim.{fitsKind}
-use Rattle.net.specs.Index.{IsTaken}
+use Rattle.kinds.specs.declared.take.Taken.{Taken}
+use Rattle.kinds.specs.declared.take.Taken.the-variants.{Word, Refused as TakeRefused}
+use Rattle.kinds.specs.Taken.{fitsKind, IsTaken}
 use Rattle.net.proofs.Structures.{stricter, word-refused, word-taken, next-fits}
 use Rattle.net.specs.Places.{rangesFrom}
 use Rattle.marking.specs.Marked.{valueIn}

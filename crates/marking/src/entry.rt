@@ -1,8 +1,8 @@
 // One entry of a marking: its TOKEN word and its values, each in the range of its place.
 use crate::values::read_values;
 use expression::read::Skipped;
-use net::take::Taken;
-use net::take::take;
+use kinds::take::Taken;
+use kinds::take::take;
 use word::fields::payload;
 ghost use mathlib.Core.Path.{_≡_};
 ghost use Rattle.semantics.specs.Marking.{Entry, readEntry};

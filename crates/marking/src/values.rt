@@ -1,7 +1,7 @@
 // VALUE words held against RANGE words of the net: the components of an entry, and the values of a binding.
 use expression::read::Skipped;
-use net::take::Taken;
-use net::take::take;
+use kinds::take::Taken;
+use kinds::take::take;
 use word::fields::signed;
 ghost use mathlib.Core.Path.{_≡_};
 ghost use Prim.Native.Nat.{_≤_, _+_, _%_};

@@ -1,4 +1,3 @@
-pub mod Taking
 pub mod Skimming
 pub mod Located
 pub mod Placed

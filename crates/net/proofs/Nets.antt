@@ -16,10 +16,11 @@ use Rattle.semantics.proofs.Tests.{false-true}
 use Rattle.expression.specs.declared.read.Skipped.{Skipped}
 use Rattle.expression.specs.declared.read.Skipped.the-variants.{Next, Refused}
 use Rattle.expression.specs.Skip.{forget, skipped}
-use Rattle.net.specs.declared.take.Taken.{Taken}
-use Rattle.net.specs.declared.take.Taken.the-variants.{Word, Refused as TakeRefused}
-use Rattle.net.specs.Skim.{changed, fitsKind, starts, skimRange, skimOne, skimPlace, skimPlaces, skimTransitions, NetOutline, skimNet}
-use Rattle.net.specs.Index.{Takes, IsTaken, upTo}
+use Rattle.kinds.specs.declared.take.Taken.{Taken}
+use Rattle.kinds.specs.declared.take.Taken.the-variants.{Word, Refused as TakeRefused}
+use Rattle.kinds.specs.Taken.{fitsKind, Takes, IsTaken}
+use Rattle.net.specs.Skim.{changed, starts, skimRange, skimOne, skimPlace, skimPlaces, skimTransitions, NetOutline, skimNet}
+use Rattle.net.specs.Index.{upTo}
 use Rattle.net.proofs.Structures.{word-refused, word-taken, next-fits}
 use Rattle.net.proofs.Loops.{Gathered, gathered-start, gathered-turn, gathered-refused, gathered-end, take-set}
 use Rattle.net.proofs.Transitions.{then-gives, upTo-refused}

@@ -11,7 +11,8 @@ use Rattle.semantics.specs.ReadNet.{readExpression, readRange, readPlace, readA
 use Rattle.semantics.proofs.Tests.{false-true}
 use Rattle.semantics.proofs.Readers.{Gives, gives, given, then-gives, as-read}
 use Rattle.expression.specs.Skip.{forget}
-use Rattle.net.specs.Skim.{changed, fitsKind, starts, skimExpression, skimArc, skimConjunct, skimOne, outline, skimTransition, width, skimPlace, skimPlaces, NetOutline, netOutline, skimNet}
+use Rattle.kinds.specs.Taken.{fitsKind}
+use Rattle.net.specs.Skim.{changed, starts, skimExpression, skimArc, skimConjunct, skimOne, outline, skimTransition, width, skimPlace, skimPlaces, NetOutline, netOutline, skimNet}
 use Rattle.net.proofs.Loops.{forget-changed}
 
 -- ── Steps ──

@@ -17,10 +17,10 @@ use Rattle.semantics.specs.Reading.{Reading, read, refused, then, demand, wordA
 use Rattle.expression.specs.declared.read.Skipped.{Skipped}
 use Rattle.expression.specs.declared.read.Skipped.the-variants.{Next, Refused}
 use Rattle.expression.specs.Skip.{forget, skipped}
-use Rattle.net.specs.declared.take.Taken.{Taken}
-use Rattle.net.specs.declared.take.Taken.the-variants.{Word, Refused as TakeRefused}
-use Rattle.net.specs.Skim.{fitsKind, starts, skimRange, skimExpression, skimArc, skimConjunct, skimOne}
-use Rattle.net.specs.Index.{taken, Takes, IsTaken}
+use Rattle.kinds.specs.declared.take.Taken.{Taken}
+use Rattle.kinds.specs.declared.take.Taken.the-variants.{Word, Refused as TakeRefused}
+use Rattle.kinds.specs.Taken.{fitsKind, taken, Takes, IsTaken}
+use Rattle.net.specs.Skim.{starts, skimRange, skimExpression, skimArc, skimConjunct, skimOne}
 use Rattle.net.proofs.Loops.{Ahead, ahead-turn, ahead-refused}
 
 -- a word that passes two tests, one after the other

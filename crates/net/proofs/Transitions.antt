@@ -14,11 +14,12 @@ use Rattle.semantics.proofs.Tests.{false-true}
 use Rattle.expression.specs.declared.read.Skipped.{Skipped}
 use Rattle.expression.specs.declared.read.Skipped.the-variants.{Next, Refused}
 use Rattle.expression.specs.Skip.{forget, skipped}
-use Rattle.net.specs.declared.take.Taken.{Taken}
-use Rattle.net.specs.declared.take.Taken.the-variants.{Word, Refused as TakeRefused}
+use Rattle.kinds.specs.declared.take.Taken.{Taken}
+use Rattle.kinds.specs.declared.take.Taken.the-variants.{Word, Refused as TakeRefused}
 use Rattle.net.specs.declared.index.Parts.{Parts}
-use Rattle.net.specs.Skim.{fitsKind, starts, skimRange, skimOne, Outline, skimTransition}
-use Rattle.net.specs.Index.{Takes, IsTaken, refusalOf, upTo, noParts, AreParts}
+use Rattle.kinds.specs.Taken.{fitsKind, Takes, IsTaken}
+use Rattle.net.specs.Skim.{starts, skimRange, skimOne, Outline, skimTransition}
+use Rattle.net.specs.Index.{refusalOf, upTo, noParts, AreParts}
 use Rattle.net.proofs.Structures.{word-refused, word-taken, next-fits}
 
 -- ── Several structures of a reading, by the answer of the code ──

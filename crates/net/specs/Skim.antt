@@ -1,35 +1,21 @@
 -- Reading a net for its positions alone: where structures begin, without the data that semantics reads. proofs/Skimming.antt shows that
 -- these readings are those of semantics with the data left out. Rests on semantics.
 use Prim.Native.Nat.{ℕ, zero, suc}
-use mathlib.Core.Bool.{Bool, true, cond, _&&_}
+use mathlib.Core.Bool.{cond}
 use mathlib.Core.List.{List, [], _∷_, map}
-use lib.Dec.{leb, ltb, eqb}
-use lib.Signed.{leZ}
+use lib.Dec.{ltb, eqb}
 use lib.ListN.{length, getD}
 use Rattle.expression.specs.Skip.{forget}
-use Rattle.semantics.specs.Word.{bits, only, between, signed}
+use Rattle.kinds.specs.Taken.{fitsKind}
+use Rattle.semantics.specs.Word.{bits}
 use Rattle.semantics.specs.Reading.{Reading, read, refused, then, Reader, _>>=_, give, word}
 use Rattle.semantics.specs.Net.{Place, Arc, Conjunct, Element, Transition, Net}
-use Rattle.semantics.specs.ReadNet.{readExpression, netWord, transitionWord}
+use Rattle.semantics.specs.ReadNet.{readExpression}
 
 -- what was read, changed
 abbrev pub changed : {A B : Type 0} → (A → B) → Reading A → Reading B
 changed f (read a next) = read (f a) next
 changed f (refused n p) = refused n p
-
--- "low ≤ high"
-abbrev pub rangeWord : ℕ → Bool
-rangeWord p = leZ (signed (bits 14 27 p)) (signed (bits 0 13 p))
-
--- the test that a word of a kind passes by itself, by the kind's code
-unfoldable pub fitsKind : ℕ → ℕ → Bool
-fitsKind k p =
-    cond (eqb k 1) (netWord p)
-    (cond (eqb k 2) (between 1 4 p)
-    (cond (eqb k 3) (rangeWord p)
-    (cond (eqb k 4) (transitionWord p)
-    (cond (eqb k 6) (only 2 p)
-    (cond (eqb k 0xA) (only 10 p && leb (bits 8 9 p) 2) true)))))
 
 -- the positions at which so many structures begin
 unfoldable pub starts : ℕ → Reader (Unit {0}) → Reader (List ℕ)

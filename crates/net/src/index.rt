@@ -1,9 +1,9 @@
 // Where the structures of a net begin, in lent tables, and by value for the calls that work on the net afterwards.
 use crate::skim::skip_ranges;
 use crate::skim::skip_several;
-use crate::take::Taken;
-use crate::take::take;
 use expression::read::Skipped;
+use kinds::take::Taken;
+use kinds::take::take;
 ghost use mathlib.Core.Path.{_≡_};
 ghost use Prim.Native.Nat.{_≤_};
 ghost use mathlib.Core.List.{zip};

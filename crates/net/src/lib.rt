@@ -1,7 +1,5 @@
 // Nets: read from words in one pass, for the positions at which their structures begin.
 
-// One word of a structure.
-pub mod take;
 // Structures passed over, with the positions at which they begin.
 pub mod skim;
 // Where the structures of a net and of a transition begin.

@@ -1,8 +1,8 @@
 // Structures passed over: an arc, a conjunct or a word by itself, and several of a kind with the positions at which they begin.
-use crate::take::Taken;
-use crate::take::take;
 use expression::read::Skipped;
 use expression::read::skip_expression;
+use kinds::take::Taken;
+use kinds::take::take;
 ghost use mathlib.Core.Path.{_≡_};
 ghost use Prim.Native.Nat.{_≤_};
 ghost use lib.ListN.{length, take};

@@ -15,10 +15,9 @@ use Rattle.expression.specs.declared.read.Skipped.{Skipped}
 use Rattle.expression.specs.declared.read.Skipped.the-variants.{Next, Refused}
 use Rattle.expression.specs.Skip.{forget, skipped}
 use Rattle.expression.proofs.Laws.{skip-reads, skip-refuses}
-use Rattle.net.specs.declared.take.Taken.{Taken}
-use Rattle.net.specs.declared.take.Taken.the-variants.{Word, Refused as TakeRefused}
-use Rattle.net.specs.Skim.{fitsKind}
-use Rattle.net.specs.Index.{IsTaken}
+use Rattle.kinds.specs.declared.take.Taken.{Taken}
+use Rattle.kinds.specs.declared.take.Taken.the-variants.{Word, Refused as TakeRefused}
+use Rattle.kinds.specs.Taken.{fitsKind, IsTaken}
 use Rattle.net.specs.Places.{widthAt, placesAt, PlacesFit}
 use Rattle.net.proofs.Structures.{stricter, word-refused, word-taken}
 use Rattle.net.proofs.Placed.{places-length, width-at, fits-at}

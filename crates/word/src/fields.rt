@@ -5,6 +5,9 @@ ghost use lib.Signed.{mag};
 ghost use Rattle.semantics.specs.Word.{kind, payload, signed, modulo, valueWord, tokenWord, within};
 ghost use Rattle.word.specs.Fields.{ends, range, rangeWord};
 
+// A net has at most this many words, and so has a marking.
+pub const MOST_WORDS: usize = 16384;
+
 // The top four bits of a word.
 pub fn kind(w: u32) -> u32
     ensures { λ r. ⌜ (r ≡ kind w) × (r < 16) ⌝ }

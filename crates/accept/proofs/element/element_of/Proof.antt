@@ -1,7 +1,7 @@
 -- `accept::element::element_of` meets its contract.
 use borrow.Author.Needs.{needs}
 use Rattle.word.proofs.Words.{bits-low}
-use Rattle.net.proofs.Taking.{tests}
+use Rattle.kinds.proofs.Taking.{tests}
 use Rattle.accept.proofs.element.element_of.Statement.{statement}
 use Rattle.accept.proofs.element.element_of.Tie as tie
 

@@ -1,5 +1,5 @@
 -- `marking::entry::fits_token` meets its contract: the three tests in the order of the definition.
-use Rattle.net.proofs.Taking.{tests}
+use Rattle.kinds.proofs.Taking.{tests}
 use Rattle.marking.proofs.Entries.{token-last}
 use native.Mathlib.Omega.{arith}
 use Rattle.marking.proofs.entry.fits_token.Statement.{statement}

@@ -1,5 +1,5 @@
 -- `marking::values::fits_range` meets its contract: the test of the bits, then the two ends of the range.
-use Rattle.net.proofs.Taking.{tests}
+use Rattle.kinds.proofs.Taking.{tests}
 use Rattle.marking.proofs.Valuing.{value-below, value-above}
 use borrow.Author.Needs.{needs}
 use Rattle.marking.proofs.values.fits_range.Statement.{statement}

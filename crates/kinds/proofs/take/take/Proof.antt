@@ -1,9 +1,9 @@
--- `net::take::take` meets its contract: a law of Taking for each return.
+-- `kinds::take::take` meets its contract: a law of Taking for each return.
 use native.Mathlib.Omega.{arith}
 use borrow.Author.Needs.{needs}
-use Rattle.net.proofs.Taking.{ends-early, too-long, other-kind, unfit, fit}
-use Rattle.net.proofs.take.take.Statement.{statement}
-use Rattle.net.proofs.take.take.Tie as tie
+use Rattle.kinds.proofs.Taking.{ends-early, too-long, other-kind, unfit, fit}
+use Rattle.kinds.proofs.take.take.Statement.{statement}
+use Rattle.kinds.proofs.take.take.Tie as tie
 
 returns : tie.Need-returns
 returns c = ends-early _ _ _ (omega arith)

@@ -9,9 +9,8 @@ use borrow.Author.Tests.{lt-ltb, le-ltb, le-leb, lt-leb, eq-eqb, ne-eqb}
 use Rattle.semantics.specs.Refusal.{netTooLong, netEndsEarly, badWord, mostWords}
 use Rattle.semantics.specs.Word.{kind, payload}
 use Rattle.semantics.specs.Reading.{wordAt, word}
-use Rattle.net.specs.declared.take.Taken.the-variants.{Word, Refused}
-use Rattle.net.specs.Skim.{fitsKind}
-use Rattle.net.specs.Index.{IsTaken}
+use Rattle.kinds.specs.declared.take.Taken.the-variants.{Word, Refused}
+use Rattle.kinds.specs.Taken.{fitsKind, IsTaken}
 
 -- for the tests of one field after another
 pub ruleset tests = (needs, lt-ltb, le-ltb, le-leb, lt-leb, eq-eqb, ne-eqb)

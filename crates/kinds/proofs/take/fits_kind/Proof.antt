@@ -1,10 +1,10 @@
--- `net::take::fits_kind` meets its contract: each arm's test is that of its kind.
+-- `kinds::take::fits_kind` meets its contract: each arm's test is that of its kind.
 use mathlib.Core.Path.{refl}
 use mathlib.Core.Logic.{⊎-elim}
-use Rattle.net.specs.Skim.{fitsKind}
-use Rattle.net.proofs.Taking.{tests}
-use Rattle.net.proofs.take.fits_kind.Statement.{statement}
-use Rattle.net.proofs.take.fits_kind.Tie as tie
+use Rattle.kinds.specs.Taken.{fitsKind}
+use Rattle.kinds.proofs.Taking.{tests}
+use Rattle.kinds.proofs.take.fits_kind.Statement.{statement}
+use Rattle.kinds.proofs.take.fits_kind.Tie as tie
 
 fits-net-requires : tie.Need-fits-net-requires
 fits-net-requires c κs = search tests

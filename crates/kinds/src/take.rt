@@ -1,4 +1,5 @@
 // One word of a structure: its kind, and the limits that hold of a word by itself.
+use word::fields::MOST_WORDS;
 use word::fields::kind;
 use word::fields::payload;
 use word::fields::signed;
@@ -6,11 +7,7 @@ ghost use mathlib.Core.Path.{_≡_};
 ghost use Prim.Native.Nat.{_%_};
 ghost use Rattle.semantics.specs.Word.{between};
 ghost use Rattle.semantics.specs.ReadNet.{netWord, transitionWord};
-ghost use Rattle.net.specs.Skim.{fitsKind, rangeWord};
-ghost use Rattle.net.specs.Index.{IsTaken};
-
-// A net has at most this many words.
-const MOST_WORDS: usize = 16384;
+ghost use Rattle.kinds.specs.Taken.{fitsKind, rangeWord, IsTaken};
 
 // The 28 bits of a word, or a refusal's number and position.
 pub enum Taken {

@@ -1,11 +1,11 @@
--- `net::take::fits_net` meets its contract: the fields in the order of the definition, each looked at where those before it fit.
+-- `kinds::take::fits_net` meets its contract: the fields in the order of the definition, each looked at where those before it fit.
 use mathlib.Core.Path.{refl, sym, _∙_}
 use native.Mathlib.Omega.{arith}
 use borrow.Author.Needs.{needs}
 use borrow.Author.Tests.{lt-ltb, le-ltb, not-true, not-false}
 use Rattle.word.proofs.Words.{bits-low}
-use Rattle.net.proofs.take.fits_net.Statement.{statement}
-use Rattle.net.proofs.take.fits_net.Tie as tie
+use Rattle.kinds.proofs.take.fits_net.Statement.{statement}
+use Rattle.kinds.proofs.take.fits_net.Tie as tie
 
 returns : tie.Need-returns
 returns c = rw (le-ltb (c .before .args .p) 65536 (omega arith)) refl

@@ -1,10 +1,10 @@
--- `net::take::fits_range` meets its contract.
+-- `kinds::take::fits_range` meets its contract.
 use mathlib.Core.Path.{refl}
 use borrow.Author.Needs.{needs}
 use Rattle.word.proofs.Read.{read-back}
 use Rattle.word.proofs.Words.{bits-low}
-use Rattle.net.proofs.take.fits_range.Statement.{statement}
-use Rattle.net.proofs.take.fits_range.Tie as tie
+use Rattle.kinds.proofs.take.fits_range.Statement.{statement}
+use Rattle.kinds.proofs.take.fits_range.Tie as tie
 
 signed-requires : tie.Need-signed-requires
 signed-requires c κs = search needs
