@@ -1,10 +1,10 @@
 // Fire for a C program.
-use crate::answer::tell_fire;
+use answers::tell::tell_fire;
 use firing::fire::fire;
 ghost use mathlib.Core.Path.{_≡_};
 ghost use Rattle.semantics.specs.Answer.{fireRefusal, fireLength};
 ghost use Rattle.semantics.specs.Calls.{fireCall};
-ghost use Rattle.gimletlemon.specs.Told.{told};
+ghost use Rattle.answers.specs.Told.{told};
 
 // Fire: the refusal's number, 0 where the binding is fired; written are the new marking to the front of `next`, its length, 0 where it is
 // refused, and the position, 0 where there is none. A refusal leaves `next` as it was.

@@ -1,9 +1,9 @@
 // Menu for a C program.
-use crate::answer::tell_menu;
+use answers::tell::tell_menu;
 ghost use mathlib.Core.Path.{_≡_};
 ghost use Rattle.semantics.specs.Answer.{menuRefusal, menuBindings, menuTries};
 ghost use Rattle.semantics.specs.Calls.{menuCall};
-ghost use Rattle.gimletlemon.specs.Told.{told};
+ghost use Rattle.answers.specs.Told.{told};
 
 // Menu: the refusal's number, 0 where the bindings are listed; written are their words to the front of `menu`, how many they are and the tries of the
 // plan, 0 and 0 where it is refused, and the position, 0 where there is none.

@@ -1,5 +1,5 @@
 // Check and split for a C program.
-use crate::answer::tell_check;
+use answers::tell::tell_check;
 use accept::check::check;
 use accept::split::split;
 use semantics::Verdict;
@@ -10,7 +10,7 @@ ghost use lib.ListN.{length, drop};
 ghost use Rattle.semantics.specs.Answer.{checkRefusal};
 ghost use Rattle.semantics.specs.Calls.{checkCall, splitCall, checkBytesCall};
 ghost use Rattle.accept.specs.Front.{splitInto};
-ghost use Rattle.gimletlemon.specs.Told.{told};
+ghost use Rattle.answers.specs.Told.{told};
 
 // Check on little-endian bytes. No reader looks past the word 16,384, so the words before it and that one are enough.
 pub fn check_bytes(net: &[u8]) -> Verdict

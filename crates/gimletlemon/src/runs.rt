@@ -1,8 +1,8 @@
 // Run for a C program.
-use crate::answer::tell_run;
+use answers::tell::tell_run;
 ghost use mathlib.Core.Path.{_≡_};
 ghost use Rattle.semantics.specs.Calls.{runCall};
-ghost use Rattle.gimletlemon.specs.Told.{told, runRefusal};
+ghost use Rattle.answers.specs.Told.{told, runRefusal};
 
 // Run: the number of the refusal that ended it, 0 where all picks were fired; written are the picks done, the length of the marking then at the front
 // of the buffer, 0 where the input is refused, and the position, 0 where there is none.

@@ -1,5 +1,5 @@
 // Test for a C program.
-use crate::answer::tell_test;
+use answers::tell::tell_test;
 use occurrence::test::test;
 use semantics::Tested;
 use word::bytes::words_of_bytes;
@@ -7,7 +7,7 @@ ghost use mathlib.Core.Path.{_≡_};
 ghost use Rattle.semantics.specs.Word.{wordsOfBytes};
 ghost use Rattle.semantics.specs.Answer.{testRefusal, testYes};
 ghost use Rattle.semantics.specs.Calls.{testCall, testBytesCall};
-ghost use Rattle.gimletlemon.specs.Told.{told};
+ghost use Rattle.answers.specs.Told.{told};
 
 // Test on the words of bytes; spare bytes are left out. The first 16,385 words of each slice are enough.
 fn test_words(net: &[u8], transition: u32, marking: &[u8], binding: &[u8]) -> Tested

@@ -3,7 +3,7 @@ use mathlib.Core.Path.{ap}
 use borrow.Author.Needs.{needs}
 use Rattle.semantics.specs.declared.Outcome.{Outcome}
 use Rattle.semantics.specs.Calls.{RunEnd}
-use Rattle.gimletlemon.specs.Told.{runRefusal}
+use Rattle.answers.specs.Told.{runRefusal}
 use Rattle.gimletlemon.proofs.Telling.{passed-on}
 use Rattle.gimletlemon.proofs.runs.gimletlemon_run.Statement.{statement}
 use Rattle.gimletlemon.proofs.runs.gimletlemon_run.Tie as tie

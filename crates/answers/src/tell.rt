@@ -6,7 +6,7 @@ use semantics::Tested;
 use semantics::Verdict;
 ghost use mathlib.Core.Path.{_≡_};
 ghost use Rattle.semantics.specs.Answer.{checkRefusal, testRefusal, testYes, menuRefusal, menuBindings, menuTries, fireRefusal, fireLength};
-ghost use Rattle.gimletlemon.specs.Told.{told, runRefusal};
+ghost use Rattle.answers.specs.Told.{told, runRefusal};
 
 // What check answers: the position is written.
 pub fn tell_check(answer: Verdict, position: &mut u64) -> u32

@@ -1,9 +1,9 @@
--- `gimletlemon::answer::tell_menu` meets its contract: by the cases of the answer.
+-- `answers::tell::tell_menu` meets its contract: by the cases of the answer.
 use mathlib.Core.Path.{sym, ap}
 use borrow.Author.Needs.{needs}
 use Rattle.semantics.specs.Answer.{menuRefusal, menuBindings, menuTries}
-use Rattle.gimletlemon.proofs.answer.tell_menu.Statement.{statement}
-use Rattle.gimletlemon.proofs.answer.tell_menu.Tie as tie
+use Rattle.answers.proofs.tell.tell_menu.Statement.{statement}
+use Rattle.answers.proofs.tell.tell_menu.Tie as tie
 
 returns : tie.Need-returns
 returns c = let e = c .before .answer .given .1 in (sym (ap menuRefusal e), (sym (ap menuBindings e), sym (ap menuTries e)))
