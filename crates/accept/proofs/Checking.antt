@@ -28,14 +28,14 @@ use Rattle.net.proofs.Loops.{forget-changed}
 use Rattle.net.proofs.Transitions.{skips}
 use Rattle.net.proofs.Nets.{seconds}
 use Rattle.net.proofs.Located.{net-transitions}
-use Rattle.accept.specs.declared.plan.Fault.{Fault}
-use Rattle.accept.specs.declared.plan.Fault.the-variants.{At, Nothing}
-use Rattle.accept.specs.Fitness.{faultAmong}
-use Rattle.accept.specs.Plan.{fault}
+use Rattle.plans.specs.declared.plan.Fault.{Fault}
+use Rattle.plans.specs.declared.plan.Fault.the-variants.{At, Nothing}
+use Rattle.plans.specs.Fitness.{faultAmong}
+use Rattle.plans.specs.Plan.{fault}
 use Rattle.accept.specs.Front.{acceptTo, unlessUnfit, settle, IsExtent, InWords, IsFront, splitInto}
 use Rattle.accept.specs.declared.accepted.Extent.{Extent}
 use Rattle.expression.specs.Skip.{forget, skipped}
-use Rattle.accept.proofs.Fitness.{net-fault}
+use Rattle.plans.proofs.Fitness.{net-fault}
 
 -- the first n of a list that has m, by the lesser of the two
 pub take-least : {A : Type 0} (l : List A) (n m p : ℕ) → length l ≡ m → p ≡ min n m → take p l ≡ take n l

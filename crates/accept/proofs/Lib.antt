@@ -1,5 +1,1 @@
-pub mod Fitness
-pub mod Binding
-pub mod Solving
-pub mod Faults
 pub mod Checking

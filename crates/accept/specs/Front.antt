@@ -17,8 +17,8 @@ use Rattle.expression.specs.declared.read.Skipped.the-variants.{Next, Refused}
 use Rattle.expression.specs.Skip.{forget, skipped}
 use Rattle.net.specs.Skim.{changed, netOutline}
 use Rattle.net.specs.Index.{upTo}
-use Rattle.accept.specs.declared.plan.Fault.{Fault}
-use Rattle.accept.specs.declared.plan.Fault.the-variants.{At, Nothing}
+use Rattle.plans.specs.declared.plan.Fault.{Fault}
+use Rattle.plans.specs.declared.plan.Fault.the-variants.{At, Nothing}
 use Rattle.accept.specs.declared.accepted.Extent.{Extent}
 
 -- the net at the front of words: 1 to 3, then 4 where it ends before the word `least`, then 5

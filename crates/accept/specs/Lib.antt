@@ -1,3 +1,1 @@
-pub mod Fitness
-pub mod Plan
 pub mod Front

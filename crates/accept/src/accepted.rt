@@ -1,13 +1,13 @@
 // Nets that are accepted, as their index: 1 to 3 by the reader, then 4 where the net stands alone, then 5.
-use crate::plan::Fault;
-use crate::plan::Reviewed;
-use crate::plan::read_plans;
 use expression::read::Skipped;
 use kinds::take::Taken;
 use kinds::take::take;
 use net::index::NetIndex;
 use net::index::read_places;
 use net::index::refusal_of;
+use plans::plan::Fault;
+use plans::plan::Reviewed;
+use plans::plan::read_plans;
 ghost use mathlib.Core.Path.{_≡_};
 ghost use lib.ListN.{length};
 ghost use Rattle.semantics.specs.Plan.{acceptFront, acceptNet};

@@ -1,13 +1,5 @@
-// Accepting nets: their plans checked; `check` and `split`.
+// Accepting nets: read, with their plans checked; `check` and `split`.
 
-// Elements of plans.
-pub mod element;
-// What a match binds.
-pub mod bind;
-// What a solve binds.
-pub mod solve;
-// What an element binds, and where a plan is at fault.
-pub mod plan;
 // Nets that are accepted.
 pub mod accepted;
 // The call check.

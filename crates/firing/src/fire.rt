@@ -1,6 +1,5 @@
 // The call fire: the marking after a step, written to a second buffer, or the refusal; a refusal leaves the buffer as it was.
 use crate::step::fire_keys;
-use accept::plan::at_most;
 use arcs::gather::gather;
 use expression::read::Skipped;
 use marking::binding::read_binding;
@@ -8,6 +7,7 @@ use net::index::TransitionIndex;
 use occurrence::enabled::taken;
 use occurrence::situation::prepare;
 use semantics::Fired;
+use word::size::at_most;
 ghost use mathlib.Core.Path.{_≡_};
 ghost use Prim.Native.Nat.{_≤_};
 ghost use lib.ListN.{length};

@@ -1,7 +1,7 @@
 // Check and split for a C program.
-use answers::tell::tell_check;
 use accept::check::check;
 use accept::split::split;
+use answers::tell::tell_check;
 use semantics::Verdict;
 use word::bytes::words_of_bytes;
 ghost use mathlib.Core.Path.{_≡_};

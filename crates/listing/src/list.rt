@@ -6,13 +6,13 @@ use crate::state::after;
 use crate::state::due;
 use crate::state::first_state;
 use accept::check::check;
-use accept::plan::at_most;
 use semantics::Verdict;
 use text::number::put_decimal;
 use text::put::put_byte;
 use text::put::put_bytes;
 use word::fields::kind;
 use word::fields::payload;
+use word::size::at_most;
 ghost use Prim.Native.Nat.{_<_};
 ghost use lib.ListN.{length};
 

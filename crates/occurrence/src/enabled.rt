@@ -1,10 +1,10 @@
 // Whether a transition is enabled under lent binding words, in a marking with the beginnings of its places.
 use crate::cover::covers;
-use accept::plan::at_most;
 use arcs::gather::Gathered;
 use arcs::gather::gather;
 use arcs::guard::guard_holds;
 use net::index::TransitionIndex;
+use word::size::at_most;
 ghost use mathlib.Core.Path.{_≡_};
 ghost use Prim.Native.Nat.{_≤_};
 ghost use lib.ListN.{length};

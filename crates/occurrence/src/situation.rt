@@ -1,11 +1,11 @@
 // What the calls on a transition and a marking start from: refusals 1 to 7, then the index of all three.
 use accept::accepted::accept_into;
-use accept::plan::at_most;
 use expression::read::Skipped;
 use marking::index::read_marking;
 use net::index::TransitionIndex;
 use net::index::ending;
 use net::index::read_transition;
+use word::size::at_most;
 ghost use mathlib.Core.Path.{_≡_};
 ghost use Rattle.occurrence.specs.Situation.{IsSituation};
 

@@ -1,13 +1,13 @@
 // What a run starts from: refusals 1 to 5, then 6, then 7, then 9, or the index of the net.
 use accept::accepted::accept_net;
 use accept::accepted::refused_index;
-use accept::plan::at_most;
 use expression::read::Skipped;
 use marking::index::read_marking_in;
 use marking::pick::FirstPick;
 use marking::pick::first_malformed;
 use marking::pick::first_unknown;
 use net::index::NetIndex;
+use word::size::at_most;
 ghost use Rattle.run.specs.Start.{IsStart};
 
 // Net, then the transitions of the picks, then the marking in the first m words of a buffer, then the picks.

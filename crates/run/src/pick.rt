@@ -1,5 +1,4 @@
 // One pick: the menu of its transition, the binding at its index, and the marking after it.
-use accept::plan::at_most;
 use firing::fire::fire_binding;
 use marking::index::read_marking;
 use net::index::TransitionIndex;
@@ -8,6 +7,7 @@ use patch::words::copy_words;
 use search::menu::list_bindings;
 use semantics::Fired;
 use semantics::Listed;
+use word::size::at_most;
 ghost use Prim.Native.Nat.{min};
 ghost use Rattle.run.specs.Pick.{Pickable, IsPicked, Fires, FiresRow, row, IsFiredAt};
 

@@ -1,10 +1,10 @@
 // The call run: picks fired one after the other, each from the marking that the one before it left.
 use crate::begin::begin;
 use crate::pick::pick_once;
-use accept::plan::at_most;
 use expression::read::Skipped;
 use search::menu::clear;
 use semantics::Outcome;
+use word::size::at_most;
 ghost use mathlib.Core.Path.{_≡_};
 ghost use Rattle.semantics.specs.Calls.{runCall};
 ghost use Rattle.run.specs.Run.{Runnable, HasRunFrom, runEnd};

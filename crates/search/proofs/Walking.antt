@@ -19,8 +19,8 @@ use Rattle.semantics.specs.Tries.{Partial, bindingOf, tries, countTries}
 use Rattle.semantics.specs.Calls.{Situation}
 use Rattle.semantics.proofs.Leaves.{Sound, sound-fits, sound-next, sound-leaf}
 use Rattle.semantics.proofs.Menu.{binding-full}
-use Rattle.accept.specs.declared.element.Element.{Element as CodeElement}
-use Rattle.accept.specs.Plan.{sorted}
+use Rattle.plans.specs.declared.element.Element.{Element as CodeElement}
+use Rattle.plans.specs.Plan.{sorted}
 use Rattle.rows.specs.Rows.{valuesOfWords, IsValue, Listing, listingOf}
 use Rattle.tries.specs.declared.partial.Tried.{Tried}
 use Rattle.tries.specs.declared.step.Step.{Step}

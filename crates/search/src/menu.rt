@@ -1,11 +1,11 @@
 // The call menu: every enabled binding of a transition in a marking, once, by rising variable 0, then 1 and on.
 use crate::progress::Progress;
 use crate::walk::walk;
-use accept::plan::at_most;
 use expression::read::Skipped;
 use net::index::TransitionIndex;
 use occurrence::situation::prepare;
 use semantics::Listed;
+use word::size::at_most;
 ghost use mathlib.Core.Path.{_≡_};
 ghost use lib.ListN.{length, replicate};
 ghost use Rattle.semantics.specs.Calls.{menuCall};

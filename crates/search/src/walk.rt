@@ -1,8 +1,8 @@
 // The search: from a partial binding over the rest of the plan, each try counted against the budget.
 use crate::leaf::leaf;
 use crate::progress::Progress;
-use accept::element::Element;
-use accept::element::element_of;
+use plans::element::Element;
+use plans::element::element_of;
 use tries::step::arrive;
 use tries::step::try_at;
 use word::fields::payload;
@@ -12,7 +12,7 @@ ghost use lib.ListN.{length, getD, drop};
 ghost use Rattle.semantics.specs.Word.{payload, bits};
 ghost use Rattle.semantics.specs.ReadNet.{sortOf};
 ghost use Rattle.semantics.proofs.Leaves.{Sound};
-ghost use Rattle.accept.specs.Plan.{sorted};
+ghost use Rattle.plans.specs.Plan.{sorted};
 ghost use Rattle.rows.specs.Rows.{listingOf};
 ghost use Rattle.tries.specs.Partial.{partialOf};
 ghost use Rattle.tries.specs.World.{World};

@@ -23,7 +23,7 @@ use Rattle.net.proofs.Structures.{stricter, word-refused, word-taken}
 use Rattle.net.proofs.Placed.{places-length, width-at, fits-at}
 use Rattle.net.proofs.Skimming.{several-length}
 use Rattle.marking.proofs.Found.{rows-inside}
-use Rattle.accept.specs.declared.element.Element.{Element}
+use Rattle.plans.specs.declared.element.Element.{Element}
 use Rattle.tries.specs.declared.step.Step.{Step}
 use Rattle.tries.specs.Step.{IsParts, Inside, IsMatch}
 

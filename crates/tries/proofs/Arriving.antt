@@ -4,9 +4,9 @@ use mathlib.Core.List.{List}
 use Prim.Native.Nat.{ℕ, _+_, _≤_, _<_}
 use native.Mathlib.Omega.{arith}
 use lib.ListN.{length, getD}
-use Rattle.accept.specs.declared.element.Element.{Element}
-use Rattle.accept.specs.declared.element.Sort.{Sort}
-use Rattle.accept.specs.declared.element.Sort.the-variants.{Match, Solve, Range as InRange}
+use Rattle.plans.specs.declared.element.Element.{Element}
+use Rattle.plans.specs.declared.element.Sort.{Sort}
+use Rattle.plans.specs.declared.element.Sort.the-variants.{Match, Solve, Range as InRange}
 use Rattle.tries.specs.declared.step.Step.{Step}
 use Rattle.tries.specs.Range.{CountsValues}
 use Rattle.tries.specs.Step.{IsMatch, SafeBy, Told, IsArrival}

@@ -8,8 +8,8 @@ use native.Mathlib.Nat.{zero-add}
 use lib.ListN.{length, getD, set, take, replicate}
 use Rattle.semantics.specs.Tries.{Partial}
 use Rattle.net.specs.Places.{rangesFrom}
-use Rattle.accept.specs.declared.element.Sort.{Sort}
-use Rattle.accept.specs.declared.element.Sort.the-variants.{Match, Solve, Range as InRange}
+use Rattle.plans.specs.declared.element.Sort.{Sort}
+use Rattle.plans.specs.declared.element.Sort.the-variants.{Match, Solve, Range as InRange}
 use Rattle.marking.specs.Marked.{valuesAt, coloursAt}
 use Rattle.marking.proofs.Ranked.{colours-length, colours-at, row-room}
 use Rattle.tries.specs.declared.step.Step.{Step}

@@ -28,10 +28,10 @@ use Rattle.word.specs.Fields.{rangeWord}
 use Rattle.net.specs.Places.{rangesFrom, placesAt}
 use Rattle.net.proofs.Located.{At, Parts, transition-parts}
 use Rattle.net.proofs.Placed.{places-length, variables-placed}
-use Rattle.accept.specs.declared.element.Element.{Element}
-use Rattle.accept.specs.declared.element.Sort.{Sort}
-use Rattle.accept.specs.declared.element.Sort.the-variants.{Match, Solve, Range as InRange}
-use Rattle.accept.specs.Plan.{sorted}
+use Rattle.plans.specs.declared.element.Element.{Element}
+use Rattle.plans.specs.declared.element.Sort.{Sort}
+use Rattle.plans.specs.declared.element.Sort.the-variants.{Match, Solve, Range as InRange}
+use Rattle.plans.specs.Plan.{sorted}
 use Rattle.marking.specs.Marked.{coloursAt}
 use Rattle.marking.proofs.Ranked.{colours-length}
 use Rattle.tries.specs.declared.step.Step.{Step}

@@ -12,9 +12,9 @@ use Rattle.semantics.specs.ReadNet.{readExpression, readArc}
 use Rattle.semantics.specs.Tries.{Partial}
 use Rattle.expression.proofs.Spelled.{HeadWord, headOfTree}
 use Rattle.net.specs.Places.{rangesFrom, placesAt}
-use Rattle.accept.specs.declared.element.Element.{Element}
-use Rattle.accept.specs.declared.element.Sort.{Sort}
-use Rattle.accept.specs.declared.element.Sort.the-variants.{Match, Solve, Range as InRange}
+use Rattle.plans.specs.declared.element.Element.{Element}
+use Rattle.plans.specs.declared.element.Sort.{Sort}
+use Rattle.plans.specs.declared.element.Sort.the-variants.{Match, Solve, Range as InRange}
 use Rattle.marking.specs.Marked.{coloursAt}
 use Rattle.tries.specs.declared.step.Step.{Step}
 use Rattle.tries.specs.Partial.{matchedBy}

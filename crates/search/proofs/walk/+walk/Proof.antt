@@ -11,7 +11,7 @@ use lib.ListN.{length, drop, take}
 use lib.Seq.{length-take-le}
 use Rattle.semantics.specs.Expression.{houseTable}
 use Rattle.semantics.specs.Tries.{tries}
-use Rattle.accept.specs.Plan.{sorted}
+use Rattle.plans.specs.Plan.{sorted}
 use Rattle.rows.specs.Rows.{listingOf}
 use Rattle.tries.specs.Partial.{partialOf}
 use Rattle.search.specs.Scene.{sceneOf}

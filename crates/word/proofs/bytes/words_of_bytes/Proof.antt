@@ -15,7 +15,7 @@ loop-again : tie.Need-loop-again Inv-loop μ-loop
 loop-again c = filled-again (c .before .before .before .before .before .before .loop .inv) (c .before .before .before .before .before .loop-test .taken) (c .word-of .ensures)
 
 returns : tie.Need-returns Inv-loop μ-loop
-returns c = (c .before .before .smaller .ensures, filled-end (c .before .loop .inv) (c .loop-test .left))
+returns c = (c .before .before .at-most .ensures, filled-end (c .before .loop .inv) (c .loop-test .left))
 
 pub words-of-bytes-spec : {M : Type 1} → statement M
 words-of-bytes-spec =

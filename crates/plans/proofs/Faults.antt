@@ -1,0 +1,244 @@
+-- The rules of faults: where a plan is at fault, from what its elements bind. Each rule is one arm of the code; in the loops what is still
+-- ahead is what was ahead at first.
+use mathlib.Core.Path.{_≡_, refl, sym, ap, _∙_, fun-ext}
+use Prim.Native.Nat.{ℕ, zero, suc, _+_, _-_, _≤_, _<_}
+use mathlib.Core.Bool.{Bool, true, false, cond, _||_}
+use mathlib.Core.List.{List, [], _∷_, _++_}
+use mathlib.Core.Option.{Option, none, some}
+use native.Mathlib.Numerals.{add-one}
+use native.Mathlib.Omega.{arith}
+use borrow.Author.Needs.{needs}
+use lib.ListN.{length, getD, getElem?, drop, take, set, replicate, drop-of-length-le}
+use lib.Seq.{drop-cons}
+use Rattle.semantics.specs.Plan.{member, everyBelow, fitOr}
+use Rattle.semantics.specs.Net as net
+use Rattle.semantics.specs.Reading.{read, refused}
+use Rattle.semantics.specs.ReadNet.{readElement, sortOf}
+use Rattle.semantics.proofs.Tests.{false-true}
+use Rattle.expression.specs.declared.read.Skipped.{Skipped}
+use Rattle.expression.specs.declared.read.Skipped.the-variants.{Next, Refused}
+use Rattle.kinds.specs.Taken.{fitsKind, taken, IsTaken}
+use Rattle.net.specs.Skim.{Outline, skimTransition, skimTransitions}
+use Rattle.semantics.specs.Word.{bits}
+use Rattle.net.proofs.Loops.{Collected, collected-start, collected-goes, collected-stops, collected-end, take-set}
+use Rattle.net.proofs.Transitions.{skips}
+use Rattle.kinds.specs.declared.take.Taken.{Taken}
+use Rattle.kinds.specs.declared.take.Taken.the-variants.{Word, Refused as TakeRefused}
+use Rattle.net.specs.declared.index.Parts.{Parts}
+use Rattle.net.specs.Index.{upTo, AreParts}
+use Rattle.plans.specs.declared.bind.Bound.{Bound}
+use Rattle.plans.specs.declared.element.Sort.{Sort}
+use Rattle.plans.specs.declared.element.Sort.the-variants.{Match, Solve, Range}
+use Rattle.plans.specs.declared.plan.Fault.{Fault}
+use Rattle.plans.specs.declared.plan.Fault.the-variants.{Nothing}
+use Rattle.plans.specs.declared.plan.Reviewed.{Reviewed}
+use Rattle.plans.specs.Fitness.{unboundOf, matchAt, solveAt, bindsAt, planParts, elementOr, faultFrom, faultIn, transitionFault, firstFault, faultAmong}
+use Rattle.plans.specs.Plan.{sorted, marked, nonEmpty, fresh, IsBound, fault, IsReviewed, AreReviewed}
+use Rattle.plans.proofs.Binding.{bound-none}
+
+-- ── Variables that are not bound ──
+
+below-bound : (n : ℕ) (p : ℕ → Bool) → 0 < n → p (n - 1) ≡ true → everyBelow n p ≡ everyBelow (n - 1) p
+unfolding everyBelow
+below-bound zero p h e = absurd (omega arith)
+below-bound (suc n) p h e =
+    let d : suc n - 1 ≡ n = omega arith in
+    let f : p n ≡ true = rw d at e in
+    rw (f, d)
+
+below-unbound : (n : ℕ) (p : ℕ → Bool) → 0 < n → p (n - 1) ≡ false → everyBelow n p ≡ false
+unfolding everyBelow
+below-unbound zero p h e = absurd (omega arith)
+below-unbound (suc n) p h e =
+    let d : suc n - 1 ≡ n = omega arith in
+    let f : p n ≡ false = rw d at e in
+    rw f
+
+-- those from n on are bound
+pub record Bounded (v : ℕ) (marks : List Bool) (n : ℕ) : Type 0 where
+  pub inside : n ≤ v
+  pub same : everyBelow v (marked marks) ≡ everyBelow n (marked marks)
+
+pub bounded-start : (v : ℕ) (marks : List Bool) → Bounded v marks v
+bounded-start v marks = record { inside = omega arith; same = refl }
+
+module _ {v : ℕ} {marks : List Bool} {n : ℕ} (a : Bounded v marks n) where
+  pub bounded-turn : 0 < n → marked marks (n - 1) ≡ true → Bounded v marks (n - 1)
+  bounded-turn h e =
+      let i = a .inside in
+      record { inside = omega arith; same = a .same ∙ below-bound n (marked marks) h e }
+
+  pub bounded-stop : (at : ℕ) → 0 < n → marked marks (n - 1) ≡ false → some at ≡ cond (everyBelow v (marked marks)) none (some at)
+  bounded-stop at h e = rw (a .same ∙ below-unbound n (marked marks) h e)
+
+  pub bounded-end : (at : ℕ) → n ≤ 0 → none ≡ cond (everyBelow v (marked marks)) none (some at)
+  unfolding everyBelow
+  bounded-end at h =
+      let d : n ≡ 0 = omega arith in
+      rw (a .same, d)
+
+-- ── What an element binds ──
+
+-- a member of a list, by its number
+elem-at : (l : List ℕ) (k : ℕ) → k < length l → getElem? l k ≡ some (getD l k 0)
+elem-at [] k h = absurd (omega arith)
+elem-at (x ∷ xs) zero h = refl
+elem-at (x ∷ xs) (suc k) h = elem-at xs k (omega arith)
+
+elem-past : (l : List ℕ) (k : ℕ) → length l ≤ k → getElem? l k ≡ none
+elem-past [] k h = refl
+elem-past (x ∷ xs) zero h = absurd (omega arith)
+elem-past (x ∷ xs) (suc k) h = elem-past xs k (omega arith)
+
+module _ (ws widths : List ℕ) (v : ℕ) (inputs guard : List ℕ) (marks : List Bool) {s : Sort} where
+  pub match-past : {k : ℕ} → s ≡ Match k → length inputs ≤ k → IsBound (fresh marks) (bindsAt ws widths (planParts v inputs guard) (marked marks) (sorted s)) (fresh marks)
+  unfolding bindsAt
+  match-past {k} e h = rw (e, elem-past inputs k h) (bound-none (fresh marks))
+
+  pub match-there : {k : ℕ} {r : Bound} → s ≡ Match k → k < length inputs → IsBound (fresh marks) (matchAt ws widths v (marked marks) (getD inputs k 0)) r → IsBound (fresh marks) (bindsAt ws widths (planParts v inputs guard) (marked marks) (sorted s)) r
+  unfolding bindsAt
+  match-there {k} e h x = rw (e, elem-at inputs k h) x
+
+  pub solve-past : {k : ℕ} → s ≡ Solve k → length guard ≤ k → IsBound (fresh marks) (bindsAt ws widths (planParts v inputs guard) (marked marks) (sorted s)) (fresh marks)
+  unfolding bindsAt
+  solve-past {k} e h = rw (e, elem-past guard k h) (bound-none (fresh marks))
+
+  pub solve-there : {k : ℕ} {r : Bound} → s ≡ Solve k → k < length guard → IsBound (fresh marks) (solveAt ws v (marked marks) (getD guard k 0)) r → IsBound (fresh marks) (bindsAt ws widths (planParts v inputs guard) (marked marks) (sorted s)) r
+  unfolding bindsAt
+  solve-there {k} e h x = rw (e, elem-at guard k h) x
+
+  pub range-there : {n : ℕ} {r : Bound} → s ≡ Range n → IsBound (fresh marks) (unboundOf v (marked marks) n) r → IsBound (fresh marks) (bindsAt ws widths (planParts v inputs guard) (marked marks) (sorted s)) r
+  unfolding bindsAt
+  range-there e x = rw e x
+
+-- ── Elements, one after the other ──
+
+-- no element so far is at fault
+pub record Planned (ws widths : List ℕ) (o : Outline) (ps : List ℕ) (at : ℕ) (marks : List Bool) (i : ℕ) : Type 0 where
+  pub inside : i ≤ length ps
+  pub same : faultFrom ws widths o at (λ k. false) ps ≡ faultFrom ws widths o at (marked marks) (drop i ps)
+
+module _ (ws widths : List ℕ) (o : Outline) (ps : List ℕ) (at : ℕ) {marks : List Bool} {i : ℕ} (a : Planned ws widths o ps at marks i) where
+  plan-next : i < length ps → faultFrom ws widths o at (λ k. false) ps ≡ faultFrom ws widths o at (marked marks) (getD ps i 0 ∷ drop (i + 1) ps)
+  plan-next h = a .same ∙ ap (faultFrom ws widths o at (marked marks)) (drop-cons ps i 0 h ∙ ap (λ (k : ℕ). getD ps i 0 ∷ drop k ps) (sym (add-one i)))
+
+  -- the element at the next position
+  element-at : {t : Taken} {w : ℕ} → IsTaken ws (getD ps i 0) 0xA t → t ≡ Word w → readElement ws (getD ps i 0) ≡ read (record { position = getD ps i 0; sort = sortOf (bits 8 9 w) (bits 0 7 w) }) (getD ps i 0 + 1)
+  unfolding readElement fitsKind
+  element-at x e = rw (sym (x .same) ∙ ap (taken (getD ps i 0)) e)
+
+  element-none : {t : Taken} {m q : ℕ} → IsTaken ws (getD ps i 0) 0xA t → t ≡ TakeRefused m q → readElement ws (getD ps i 0) ≡ refused m q
+  unfolding readElement fitsKind
+  element-none x e = rw (sym (x .same) ∙ ap (taken (getD ps i 0)) e)
+
+  pub plan-unread : i < length ps → {t : Taken} {m q : ℕ} → IsTaken ws (getD ps i 0) 0xA t → t ≡ TakeRefused m q → some (getD ps i 0) ≡ faultFrom ws widths o at (λ k. false) ps
+  unfolding faultFrom
+  plan-unread h x e = sym (plan-next h ∙ rw (element-none x e))
+
+  module _ (h : i < length ps) {t : Taken} {w : ℕ} (x : IsTaken ws (getD ps i 0) 0xA t) (e : t ≡ Word w) (s : Sort) (y : sorted s ≡ sortOf (bits 8 9 w) (bits 0 7 w)) {r : Bound} (z : IsBound (fresh marks) (bindsAt ws widths o (marked marks) (sorted s)) r) where
+    pub plan-unfit : r .some ≡ false → some (getD ps i 0) ≡ faultFrom ws widths o at (λ k. false) ps
+    unfolding faultFrom
+    plan-unfit f = sym (plan-next h ∙ rw (element-at x e, ← y) (by (bindsAt ws widths o (marked marks) (sorted s)) (sym (z .some) ∙ f)))
+      where
+        by : (ns : List ℕ) → (nonEmpty ns || false) ≡ false → fitOr ns (getD ps i 0) (λ ns. faultFrom ws widths o at (λ k. member ns k || marked marks k) (drop (i + 1) ps)) ≡ some (getD ps i 0)
+        by [] q = refl
+        by (n ∷ ns) q = false-true (sym q)
+
+    pub plan-turn : r .some ≡ true → Planned ws widths o ps at (r .marks) (i + 1)
+    unfolding faultFrom
+    plan-turn f = record { inside = omega arith; same = plan-next h ∙ rw (element-at x e, ← y) (by (bindsAt ws widths o (marked marks) (sorted s)) (sym (z .some) ∙ f) (z .marks)) }
+      where
+        by : (ns : List ℕ) → (nonEmpty ns || false) ≡ true → ((k : ℕ) → marked (r .marks) k ≡ (member ns k || marked marks k)) → fitOr ns (getD ps i 0) (λ ns. faultFrom ws widths o at (λ k. member ns k || marked marks k) (drop (i + 1) ps)) ≡ faultFrom ws widths o at (marked (r .marks)) (drop (i + 1) ps)
+        by [] q g = false-true q
+        by (n ∷ ns) q g = ap (λ (p : ℕ → Bool). faultFrom ws widths o at p (drop (i + 1) ps)) (fun-ext (λ k. sym (g k)))
+
+  pub plan-end : {r : Option ℕ} → length ps ≤ i → r ≡ cond (everyBelow (o .variables) (marked marks)) none (some at) → r ≡ faultFrom ws widths o at (λ k. false) ps
+  unfolding faultFrom
+  plan-end h x = x ∙ sym (a .same ∙ ap (faultFrom ws widths o at (marked marks)) (drop-of-length-le ps {i = i} h))
+
+-- ── The plan of a transition ──
+
+pub planned-start : (ws widths : List ℕ) (o : Outline) (ps : List ℕ) (at : ℕ) → Planned ws widths o ps at (replicate 8 false) 0
+planned-start ws widths o ps at = record { inside = omega arith; same = ap (λ (p : ℕ → Bool). faultFrom ws widths o at p ps) (fun-ext (λ k. unmarked 8 k)) }
+  where
+    unmarked : (n k : ℕ) → false ≡ marked (replicate n false) k
+    unmarked zero k = refl
+    unmarked (suc n) zero = refl
+    unmarked (suc n) (suc k) = unmarked n k
+
+-- the parts that a plan names are all that its faults are told from
+parts-fault : (ws widths : List ℕ) (o : Outline) (at : ℕ) (isBound : ℕ → Bool) (ps : List ℕ) → faultFrom ws widths (planParts (o .variables) (o .inputs) (o .guard)) at isBound ps ≡ faultFrom ws widths o at isBound ps
+unfolding faultFrom bindsAt
+parts-fault ws widths o at isBound [] = refl
+parts-fault ws widths o at isBound (p ∷ ps) =
+    ap (elementOr (readElement ws p) p)
+    (fun-ext (λ s.
+    ap (λ (ns : List ℕ). fitOr ns p (λ ns. faultFrom ws widths (planParts (o .variables) (o .inputs) (o .guard)) at (λ k. member ns k || isBound k) ps)) (same s)
+    ∙ ap (fitOr (bindsAt ws widths o isBound s) p) (fun-ext (λ ns. parts-fault ws widths o at (λ k. member ns k || isBound k) ps))))
+  where
+    same : (s : net.Sort) → bindsAt ws widths (planParts (o .variables) (o .inputs) (o .guard)) isBound s ≡ bindsAt ws widths o isBound s
+    same (net.match k) = refl
+    same (net.solve k) = refl
+    same (net.range n) = refl
+
+-- a transition whose parts stand in tables
+module _ (ws widths : List ℕ) (at : ℕ) {ins outs guard plan : List ℕ} (t : Parts) (x : AreParts ws widths at ins outs guard plan t) where
+  outlined : Outline
+  outlined = record { variables = t .variables; inputs = take (t .inputs) ins; outputs = take (t .outputs) outs; guard = take (t .conjuncts) guard; plan = take (t .elements) plan }
+
+  read-to : {end : Skipped} → t .end ≡ end → skimTransition ws widths at ≡ upTo end outlined
+  unfolding outlined
+  read-to e = sym (x .same) ∙ ap (λ (k : Skipped). upTo k outlined) e
+
+  pub unread-plan : {n p : ℕ} → t .end ≡ Refused n p → IsReviewed ws widths at (record { end = t .end; fault = Nothing })
+  unfolding outlined
+  unread-plan e = record { ends = skips (t .end) outlined (x .same); faults = sym (ap (faultIn ws widths at) (read-to e)) }
+
+  pub plan-read : {next : ℕ} (f : Fault) → t .end ≡ Next next → fault f ≡ faultFrom ws widths (planParts (t .variables) (take (t .inputs) ins) (take (t .conjuncts) guard)) at (λ k. false) (take (t .elements) plan) → IsReviewed ws widths at (record { end = t .end; fault = f })
+  unfolding outlined
+  plan-read f e y = record { ends = skips (t .end) outlined (x .same); faults = y ∙ parts-fault ws widths outlined at (λ k. false) (take (t .elements) plan) ∙ sym (ap (faultIn ws widths at) (read-to e)) }
+
+-- ── Transitions, one after the other ──
+
+-- one more transition
+among-last : (ws widths ats : List ℕ) (at : ℕ) → faultAmong ws widths (ats ++ (at ∷ [])) ≡ firstFault (faultAmong ws widths ats) (transitionFault ws widths at)
+unfolding faultAmong
+among-last ws widths [] at = by (transitionFault ws widths at)
+  where
+    by : (o : Option ℕ) → firstFault o none ≡ o
+    by none = refl
+    by (some p) = refl
+among-last ws widths (a ∷ ats) at = ap (firstFault (transitionFault ws widths a)) (among-last ws widths ats at) ∙ by (transitionFault ws widths a)
+  where
+    by : (o : Option ℕ) → firstFault o (firstFault (faultAmong ws widths ats) (transitionFault ws widths at)) ≡ firstFault (firstFault o (faultAmong ws widths ats)) (transitionFault ws widths at)
+    by none = refl
+    by (some p) = refl
+
+-- the i first of n transitions were read, and f is the first fault of their plans
+pub record Reviewing (ws widths : List ℕ) (n at i next : ℕ) (begins : List ℕ) (f : Fault) : Type 0 where
+  pub collected : Collected (skimTransitions ws widths) n at i next begins
+  pub faults : fault f ≡ faultAmong ws widths (take i begins)
+
+pub reviewing-start : (ws widths : List ℕ) (n at : ℕ) (begins : List ℕ) → Reviewing ws widths n at 0 at begins Nothing
+unfolding faultAmong
+reviewing-start ws widths n at begins = record { collected = collected-start (skimTransitions ws widths) n at begins; faults = refl }
+
+module _ {ws widths : List ℕ} {n at i next : ℕ} {begins : List ℕ} {f : Fault} (a : Reviewing ws widths n at i next begins f) where
+  pub reviewing-end : n ≤ i → AreReviewed ws widths n at begins (record { end = Next next; fault = f })
+  reviewing-end h =
+      let g = a .collected .gathered .inside in
+      let e : i ≡ n = omega arith in
+      record { same = collected-end (a .collected) h; faults = λ k d. rw e at (a .faults) }
+
+  module _ (h : i < n) {t : Reviewed} (x : IsReviewed ws widths next t) where
+    pub reviewing-goes : {p : ℕ} {g : Fault} → n ≤ length begins → t .end ≡ Next p → fault g ≡ firstFault (fault f) (fault (t .fault)) → Reviewing ws widths n at (i + 1) p (set begins i next) g
+    reviewing-goes l d e =
+        record {
+          collected = collected-goes (a .collected) h (x .ends) l d;
+          faults = e ∙ rw (a .faults, x .faults) (sym (among-last ws widths (take i begins) next)) ∙ sym (ap (faultAmong ws widths) (take-set begins i next (omega arith)));
+        }
+
+    pub reviewing-stops : {m q : ℕ} (begins′ : List ℕ) → t .end ≡ Refused m q → AreReviewed ws widths n at begins′ t
+    reviewing-stops begins′ d = record { same = rw d (collected-stops (a .collected) h (x .ends) d); faults = λ k e. let z : Refused _ _ ≡ Next k = sym d ∙ e in false-true (cc) }
+
+pub ruleset faults = (needs, bounded-turn, bounded-stop, bounded-end, match-past, match-there, solve-past, solve-there, range-there, plan-unread, plan-unfit, plan-turn, plan-end, reviewing-end, reviewing-goes, reviewing-stops)

@@ -1,0 +1,4 @@
+pub mod Fitness
+pub mod Binding
+pub mod Solving
+pub mod Faults

@@ -1,0 +1,59 @@
+-- `plans::plan::plan_fault` meets its contract: no element so far is at fault.
+use Prim.Native.Nat.{_-_}
+use native.Mathlib.Omega.{arith}
+use lib.ListN.{length}
+use borrow.Author.Needs.{needs}
+use borrow.Author.Tests.{not-true, not-false}
+use Rattle.plans.specs.Fitness.{planParts}
+use Rattle.plans.proofs.Faults.{Planned, planned-start, plan-unfit, plan-turn, faults}
+use Rattle.plans.proofs.plan.plan_fault.Statement.{statement}
+use Rattle.plans.proofs.plan.plan_fault.Tie as tie
+
+abbrev Inv-loop : tie.InvT-loop
+Inv-loop words widths variables inputs conjuncts elements at marks₀ i₀ marks i = Planned words widths (planParts variables inputs conjuncts) elements at marks i
+
+abbrev μ-loop : tie.MeasureT-loop
+μ-loop words widths variables inputs conjuncts elements at marks₀ i₀ marks i = length elements - i
+
+loop-holds : tie.Need-loop-holds Inv-loop μ-loop
+loop-holds c = planned-start _ _ _ _ _
+
+returns : tie.Need-returns Inv-loop μ-loop
+returns c = search faults
+
+returns-2 : tie.Need-returns-2 Inv-loop μ-loop
+returns-2 c =
+    let nb = c .before .before in
+    let tk = nb .before .before .before .before .before in
+    plan-unfit _ _ _ _ _ (tk .before .before .before .loop .inv) (omega arith) (tk .take .ensures) (nb .before .before .before .head .given .1) (nb .before .element-of .result .sort) (nb .before .element-of .ensures) (nb .newly-bound .ensures) (not-true _ (c .if1 .taken))
+
+loop-again : tie.Need-loop-again Inv-loop μ-loop
+loop-again c =
+    let nb = c .before .before .before in
+    let tk = nb .before .before .before .before .before in
+    plan-turn _ _ _ _ _ (tk .before .before .before .loop .inv) (omega arith) (tk .take .ensures) (nb .before .before .before .head .given .1) (nb .before .element-of .result .sort) (nb .before .element-of .ensures) (nb .newly-bound .ensures) (not-false _ (c .before .if1 .left))
+
+returns-3 : tie.Need-returns-3 Inv-loop μ-loop
+returns-3 c = search faults
+
+pub plan-fault-spec : {M : Type 1} → statement M
+plan-fault-spec =
+    tie.close
+    (tie.spec
+    Inv-loop
+    μ-loop
+    loop-holds
+    (λ c. search needs)
+    (λ c. search needs)
+    (λ c κs. search needs)
+    (λ c. search needs)
+    (λ c. search needs)
+    returns
+    (λ c κs. search needs)
+    (λ c κs. search needs)
+    returns-2
+    (λ c. search needs)
+    (λ c. search needs)
+    loop-again
+    (λ c κs. search needs)
+    returns-3)

@@ -1,0 +1,193 @@
+// Plans: the variables that an element binds, and where a plan is at fault.
+use crate::bind::Bound;
+use crate::bind::bind_match;
+use crate::bind::bind_variable;
+use crate::element::Element;
+use crate::element::Sort;
+use crate::element::element_of;
+use crate::solve::bind_solve;
+use expression::read::Skipped;
+use kinds::take::Taken;
+use kinds::take::take;
+use net::index::read_parts;
+ghost use mathlib.Core.Path.{_≡_};
+ghost use mathlib.Core.Bool.{false, cond};
+ghost use mathlib.Core.Option.{none, some};
+ghost use Prim.Native.Nat.{_≤_};
+ghost use lib.ListN.{length};
+ghost use Rattle.semantics.specs.Plan.{everyBelow};
+ghost use Rattle.plans.specs.Fitness.{planParts, bindsAt, faultFrom, firstFault};
+ghost use Rattle.plans.specs.Plan.{marked, fresh, IsBound, sorted, fault, IsReviewed, AreReviewed};
+
+// The variables that an element of a transition binds, whose input arcs and conjuncts begin at these positions.
+fn newly_bound(
+    words: &[u32],
+    widths: &[usize],
+    variables: usize,
+    inputs: &[usize],
+    conjuncts: &[usize],
+    marks: [bool; 8],
+    e: Element,
+) -> Bound
+    requires { ⌜ variables ≤ 8 ⌝ }
+    ensures { λ r. ⌜ IsBound (fresh marks) (bindsAt (now (words .entry)) (now (widths .entry)) (planParts variables (now (inputs .entry)) (now (conjuncts .entry))) (marked marks) (sorted (e .sort))) r ⌝ }
+{
+    let sort = e.sort;
+    let b = Bound {
+        some: false,
+        marks: marks,
+    };
+    match sort {
+        Sort::Match(k) => {
+            if inputs.len() <= k {
+                return b;
+            }
+            bind_match(words, widths, variables, b, inputs[k])
+        }
+        Sort::Solve(k) => {
+            if conjuncts.len() <= k {
+                return b;
+            }
+            bind_solve(words, variables, b, conjuncts[k])
+        }
+        Sort::Range(n) => bind_variable(variables, b, n),
+    }
+}
+
+// Where a plan is at fault.
+pub enum Fault {
+    At(usize),
+    Nothing,
+}
+
+// A variable that is not bound is a fault at the transition.
+fn unbound(variables: usize, marks: [bool; 8], at: usize) -> Fault
+    requires { ⌜ variables ≤ 8 ⌝ }
+    ensures { λ r. ⌜ fault r ≡ cond (everyBelow variables (marked marks)) none (some at) ⌝ }
+{
+    let mut n = variables;
+    while 0 < n {
+        n -= 1;
+        if !marks[n] {
+            return Fault::At(at);
+        }
+    }
+    Fault::Nothing
+}
+
+// The fault of a plan whose elements begin at these positions, as do the transition's input arcs and conjuncts; the transition is at `at`.
+fn plan_fault(
+    words: &[u32],
+    widths: &[usize],
+    variables: usize,
+    inputs: &[usize],
+    conjuncts: &[usize],
+    elements: &[usize],
+    at: usize,
+) -> Fault
+    requires { ⌜ variables ≤ 8 ⌝ }
+    ensures { λ r. ⌜ fault r ≡ faultFrom (now (words .entry)) (now (widths .entry)) (planParts variables (now (inputs .entry)) (now (conjuncts .entry))) at (λ k. false) (now (elements .entry)) ⌝ }
+{
+    let mut marks = [false; 8];
+    let mut i = 0;
+    while i < elements.len() {
+        let p = elements[i];
+        let head = take(words, p, 10);
+        let Taken::Word(w) = head else {
+            return Fault::At(p);
+        };
+        let e = element_of(w);
+        let b = newly_bound(words, widths, variables, inputs, conjuncts, marks, e);
+        if !b.some {
+            return Fault::At(p);
+        }
+        marks = b.marks;
+        i += 1;
+    }
+    unbound(variables, marks, at)
+}
+
+// What was read of transitions: where they end or why they cannot be read, and the first fault of their plans.
+pub struct Reviewed {
+    pub end: Skipped,
+    pub fault: Fault,
+}
+
+// The transition at a position, with the fault of its plan.
+fn read_plan(words: &[u32], widths: &[usize], at: usize) -> Reviewed
+    ensures { λ r. ⌜ IsReviewed (now (words .entry)) (now (widths .entry)) at r ⌝ }
+{
+    let mut ins = [0usize; 8];
+    let mut outs = [0usize; 8];
+    let mut guard = [0usize; 8];
+    let mut plan = [0usize; 8];
+    let t = read_parts(
+        words,
+        widths,
+        &mut ins,
+        &mut outs,
+        &mut guard,
+        &mut plan,
+        at,
+    );
+    let end = t.end;
+    let Skipped::Next(_) = end else {
+        return Reviewed {
+            end: end,
+            fault: Fault::Nothing,
+        };
+    };
+    let inputs = t.inputs;
+    let conjuncts = t.conjuncts;
+    let elements = t.elements;
+    let ins = &ins[..inputs];
+    let guard = &guard[..conjuncts];
+    let plan = &plan[..elements];
+    let fault = plan_fault(words, widths, t.variables, ins, guard, plan, at);
+    Reviewed {
+        end: end,
+        fault: fault,
+    }
+}
+
+// The first of two faults.
+fn first_of(a: Fault, b: Fault) -> Fault
+    ensures { λ r. ⌜ fault r ≡ firstFault (fault a) (fault b) ⌝ }
+{
+    match a {
+        Fault::At(p) => Fault::At(p),
+        Fault::Nothing => b,
+    }
+}
+
+// n transitions, with the first fault of their plans; where each begins is written to the front of `begins`.
+pub fn read_plans(
+    words: &[u32],
+    widths: &[usize],
+    begins: &mut [usize],
+    n: usize,
+    at: usize,
+) -> Reviewed
+    requires { ⌜ n ≤ length (now begins) ⌝ }
+    ensures { λ r. ⌜ AreReviewed (now (words .entry)) (now (widths .entry)) n at (now (begins .exit)) r ⌝ }
+{
+    let mut fault = Fault::Nothing;
+    let mut i = 0;
+    let mut next = at;
+    while i < n {
+        begins[i] = next;
+        let t = read_plan(words, widths, next);
+        let end = t.end;
+        let Skipped::Next(p) = end else {
+            return t;
+        };
+        let own = t.fault;
+        fault = first_of(fault, own);
+        next = p;
+        i += 1;
+    }
+    Reviewed {
+        end: Skipped::Next(next),
+        fault: fault,
+    }
+}
