@@ -1,6 +1,6 @@
 // The call menu held against what is due, and the first difference in full.
+use conformance_lister::lister::Listing;
 use conformance_plain::build::front;
-use conformance_plain::lister::Listing;
 use conformance_plain::reading::plus;
 use conformance_plain::reading::wide;
 use conformance_report::report::fill;

@@ -1,12 +1,12 @@
 // What a case has in it, counted by kind.
-use conformance_plain::counting::Arrival;
-use conformance_plain::counting::Work;
-use conformance_plain::counting::arrival_at;
+use conformance_draw::plans::after_element;
+use conformance_lister::counting::Arrival;
+use conformance_lister::counting::Work;
+use conformance_lister::counting::arrival_at;
+use conformance_lister::flow::is_enabled;
+use conformance_lister::lister::Listing;
 use conformance_plain::counts::Counts;
 use conformance_plain::counts::counts_of;
-use conformance_plain::flow::is_enabled;
-use conformance_plain::lister::Listing;
-use conformance_plain::plans::after_element;
 use conformance_plain::reading::Shape;
 use conformance_plain::reading::components;
 use conformance_plain::reading::get;

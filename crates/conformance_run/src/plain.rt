@@ -1,14 +1,14 @@
 // The plain run of document 01. Its state is an array of counts and the picks done; nothing of the engine is in it.
+use conformance_lister::counting::count_tries;
+use conformance_lister::flow::give_outputs;
+use conformance_lister::flow::take_inputs;
+use conformance_lister::lister::list_all;
 use conformance_plain::build::front;
 use conformance_plain::build::put;
-use conformance_plain::counting::count_tries;
 use conformance_plain::counts::Counts;
 use conformance_plain::counts::counts_of;
 use conformance_plain::counts::put_marking;
 use conformance_plain::counts::read_marking;
-use conformance_plain::flow::give_outputs;
-use conformance_plain::flow::take_inputs;
-use conformance_plain::lister::list_all;
 use conformance_plain::reading::Shape;
 use conformance_plain::reading::get;
 use conformance_plain::reading::kind;
