@@ -25,6 +25,7 @@ use Rattle.rows.specs.Rows.{valuesOfWords, IsValue, Listing, listingOf}
 use Rattle.tries.specs.declared.partial.Tried.{Tried}
 use Rattle.tries.specs.declared.step.Step.{Step}
 use Rattle.tries.specs.Partial.{partialOf, tried}
+use Rattle.tries.specs.Known.{Knows}
 use Rattle.tries.specs.Step.{Safe, Ready, triesBy, IsArrival}
 use Rattle.tries.specs.World.{World}
 use Rattle.tries.proofs.Tries.{arrival-ready, arrival-tries, tries-length}
@@ -73,8 +74,9 @@ module _ {ws ps : List ℕ} {position v : ℕ} {inputs conjuncts elements ms beg
     pub sound : (q : Partial) (i : ℕ) → i < length (tries houseTable (s .net) (s .transition) (s .counts) (sorted (step .element .sort)) (partialOf v b)) → getD (tries houseTable (s .net) (s .transition) (s .counts) (sorted (step .element .sort)) (partialOf v b)) i none ≡ some q → Sound (s .transition) (drop (d + 1) (s .transition .plan)) q
     pub safe : Safe ms v step
     pub ready : Ready ws v step
+    pub knows : Knows v b (step .parts) (step .known)
 
-  pub stepping : {e : CodeElement} {step : Step} → d < length elements → sorted (e .sort) ≡ sortOf (bits 8 9 (payload (getD ws (getD elements d 0) 0))) (bits 0 7 (payload (getD ws (getD elements d 0) 0))) → IsArrival ws ps position v inputs conjuncts ms begins e step → Stepping step
+  pub stepping : {e : CodeElement} {step : Step} → d < length elements → sorted (e .sort) ≡ sortOf (bits 8 9 (payload (getD ws (getD elements d 0) 0))) (bits 0 7 (payload (getD ws (getD elements d 0) 0))) → IsArrival ws ps position v inputs conjuncts ms begins e b step → Stepping step
   stepping {e} {step} h k A =
       let n = next-element W d h in
       let S′ = subst (λ (es : List Element). Sound (s .transition) es (partialOf v b)) (n .ahead) S in
@@ -92,6 +94,7 @@ module _ {ws ps : List ℕ} {position v : ℕ} {inputs conjuncts elements ms beg
         sound = λ q i l x. sound-next houseTable (s .net) (s .counts) S′ q (subst (λ (os : List (Option Partial)). List·Memᴰ (some q) os) (sym o) (at-number (tries houseTable (s .net) (s .transition) (s .counts) (sorted (step .element .sort)) (partialOf v b)) i none (some q) l x));
         safe = A .safe;
         ready = arrival-ready W A;
+        knows = A .knows;
       }
 
   -- a try of the code, among them

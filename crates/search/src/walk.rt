@@ -77,6 +77,7 @@ pub fn walk(
         marking,
         begins,
         element_at(net, elements[depth]),
+        b,
     );
     let mut cur = s;
     let mut i = 0;

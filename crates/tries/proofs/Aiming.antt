@@ -6,7 +6,7 @@ use Prim.Native.Nat.{ℕ, _+_, _-_, _/_, _≤_, _<_}
 use native.Mathlib.Omega.{arith}
 use borrow.Author.Tests.{ltb-true}
 use lib.Dec.{ltb}
-use lib.ListN.{length, getD}
+use lib.ListN.{length, getD, replicate}
 use Rattle.semantics.specs.Reading.{read, refused, several, word}
 use Rattle.semantics.specs.Net.{Place, Arc, rangesAt}
 use Rattle.semantics.specs.ReadNet.{readExpression, readArc}
@@ -25,7 +25,9 @@ use Rattle.net.proofs.Skimming.{several-length}
 use Rattle.marking.proofs.Found.{rows-inside}
 use Rattle.plans.specs.declared.element.Element.{Element}
 use Rattle.tries.specs.declared.step.Step.{Step}
+use Rattle.tries.specs.Known.{Knows}
 use Rattle.tries.specs.Step.{IsParts, Inside, IsMatch}
+use Rattle.tries.proofs.Knowing.{knows-nothing}
 
 -- ── An arc that was read ──
 
@@ -68,12 +70,16 @@ pub record Without (e : Element) (r : Step) : Type 0 where
   pub none : r .count ≡ 0
   pub front : r .from ≡ 0
   pub narrow : r .width ≡ 0
+  pub blank : r .known ≡ replicate 4 0
 
-pub without : {e : Element} {r : Step} → (r .element ≡ e) × (r .count ≡ 0) × (r .from ≡ 0) × (r .width ≡ 0) → Without e r
-without h = record { element = h .0; none = h .1; front = h .2; narrow = h .3 }
+pub without : {e : Element} {r : Step} → (r .element ≡ e) × (r .count ≡ 0) × (r .from ≡ 0) × (r .width ≡ 0) × (r .known ≡ replicate 4 0) → Without e r
+without h = record { element = h .0; none = h .1; front = h .2; narrow = h .3; blank = h .4 }
 
 pub without-inside : {e : Element} {r : Step} (ms : List ℕ) → Without e r → Inside ms r
 without-inside {e} {r} ms n = record { narrow = rw (n .narrow) (omega arith); inside = rw (n .none, n .front, n .narrow) (omega arith) }
+
+pub without-knows : {e : Element} {r : Step} (v : ℕ) (b : List ℕ) → Without e r → Knows v b (r .parts) (r .known)
+without-knows {e} {r} v b n = rw (n .blank) (knows-nothing v b (r .parts) 4)
 
 module _ (ws ps : List ℕ) (v : ℕ) (ms begins : List ℕ) (e : Element) (at : ℕ) {t : Taken} (w : IsTaken ws at 5 t) where
   -- an arc reads only where its word was taken
@@ -120,7 +126,7 @@ module _ (ws ps : List ℕ) (v : ℕ) (ms begins : List ℕ) (e : Element) (at :
   -- ── The entries of its place ──
 
   module _ {q : ℕ} (d : t ≡ Word q) (l : q < length ps) (fits : PlacesFit ws ps) (up : getD begins q 0 ≤ getD begins (q + 1) 0) (inside : getD begins (q + 1) 0 ≤ length ms) (k : Skipped) (f : skipped k ≡ forget (readExpression ws v (at + 1))) {first : ℕ} (g : k ≡ Next first) where
-    pub match-aimed : {width : ℕ} {parts : List ℕ} → width ≡ widthAt ws (getD ps q 0) → IsParts ws v first width parts → IsMatch ws ps v ms begins e at (record { element = e; count = (getD begins (q + 1) 0 - getD begins q 0) / (width + 1); from = getD begins q 0; width = width; parts = parts })
+    pub match-aimed : {width : ℕ} {parts known : List ℕ} → width ≡ widthAt ws (getD ps q 0) → IsParts ws v first width parts → IsMatch ws ps v ms begins e at (record { element = e; count = (getD begins (q + 1) 0 - getD begins q 0) / (width + 1); from = getD begins q 0; width = width; parts = parts; known = known })
     match-aimed {width} {parts} i j = record {
       element = refl;
       entries = record { narrow = rw i (fits-at fits q l .narrow); inside = rows-inside (getD begins q 0) (getD begins (q + 1) 0) (width + 1) (length ms) up inside };

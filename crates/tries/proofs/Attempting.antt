@@ -1,5 +1,6 @@
 -- The rules of the i-th try: by the sort of the element, it is the i-th member of the tries.
 use mathlib.Core.Path.{_≡_, refl, sym, ap, _∙_, subst}
+use mathlib.Core.Bool.{Bool, true}
 use mathlib.Core.List.{List, [], _∷_, map}
 use mathlib.Core.Option.{Option, none, some}
 use Prim.Native.Nat.{ℕ, zero, suc, _+_, _*_, _≤_, _<_}
@@ -13,10 +14,12 @@ use Rattle.plans.specs.declared.element.Sort.the-variants.{Match, Solve, Range 
 use Rattle.marking.specs.Marked.{valuesAt, coloursAt}
 use Rattle.marking.proofs.Ranked.{colours-length, colours-at, row-room}
 use Rattle.tries.specs.declared.step.Step.{Step}
-use Rattle.tries.specs.Partial.{matchedBy}
+use Rattle.tries.specs.Partial.{partialOf, matchedBy}
+use Rattle.tries.specs.Known.{Knows, Differs, DiffersIf}
 use Rattle.tries.specs.Solve.{solvedAt, HasConjunct}
 use Rattle.tries.specs.Range.{valueAt}
 use Rattle.tries.specs.Step.{Inside, SafeBy, Safe, ReadyBy, Ready, upFrom, triesOf, triesBy}
+use Rattle.tries.proofs.Knowing.{differs-fails}
 
 pub map-getD : {A B : Type 0} (f : A → B) (l : List A) (i : ℕ) (d : A) (e : B) → i < length l → getD (map f l) i e ≡ f (getD l i d)
 map-getD f [] i d e h = absurd (omega arith)
@@ -59,6 +62,13 @@ module _ (ws : List ℕ) (ranges v : ℕ) (ms : List ℕ) (s : Step) (p : Partia
     where
       up : ℕ → Option Partial
       up j = some (set p k (some (valueAt (getD ws (ranges + k) 0) j)))
+
+-- a colour that differs from what is known
+module _ (ws : List ℕ) (ranges v : ℕ) (ms : List ℕ) (s : Step) (b : List ℕ) (i : ℕ) (h : i < s .count) where
+  pub try-differs : {k : ℕ} {r : Bool} → s .element .sort ≡ Match k → Knows v b (s .parts) (s .known) → r ≡ true → DiffersIf ms (s .from + i * (s .width + 1) + 1) (s .width) (s .known) r → none ≡ getD (triesBy ws ranges v ms s (partialOf v b)) i none
+  try-differs e k t d =
+      let f : Differs ms (s .from + i * (s .width + 1) + 1) (s .width) (s .known) = subst (DiffersIf ms (s .from + i * (s .width + 1) + 1) (s .width) (s .known)) t d in
+      try-match ws ranges v ms s (partialOf v b) i h e (differs-fails (rangesFrom ws v ranges) k f)
 
 -- what is safe and ready, by the sort
 module _ (v : ℕ) (s : Step) where

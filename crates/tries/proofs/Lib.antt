@@ -1,6 +1,7 @@
 pub mod Slots
 pub mod Binding
 pub mod Agreeing
+pub mod Knowing
 pub mod Ranging
 pub mod Solving
 pub mod Parting

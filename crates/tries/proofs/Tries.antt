@@ -115,7 +115,7 @@ module _ {ws ps : List ℕ} {position v : ℕ} {inputs conjuncts elements ms beg
 
   -- ── An arrival ──
 
-  module _ {e : Element} {r : Step} (a : IsArrival ws ps position v inputs conjuncts ms begins e r) where
+  module _ {e : Element} {b : List ℕ} {r : Step} (a : IsArrival ws ps position v inputs conjuncts ms begins e b r) where
     -- a conjunct that is tried stands at its position
     ready-by : (k : Sort) → Told ws ps position v inputs conjuncts ms begins e r k → ReadyBy ws v r k
     ready-by (Match k) t = tt

@@ -1,4 +1,5 @@
 pub mod Partial
+pub mod Known
 pub mod Solve
 pub mod Range
 pub mod Step

@@ -1,5 +1,5 @@
 -- What an arrival at an element tries, told from positions. proofs/Tries.antt shows that in an accepted net and marking it is what semantics says.
--- Rests on semantics/specs/Tries, marking/specs/Marked, Partial, Solve and Range.
+-- Rests on semantics/specs/Tries, marking/specs/Marked, Partial, Known, Solve and Range.
 use mathlib.Core.Path.{_≡_}
 use mathlib.Core.List.{List, [], _∷_, map}
 use mathlib.Core.Option.{Option, some}
@@ -18,6 +18,7 @@ use Rattle.plans.specs.declared.element.Sort.the-variants.{Match, Solve, Range 
 use Rattle.marking.specs.Marked.{coloursAt}
 use Rattle.tries.specs.declared.step.Step.{Step}
 use Rattle.tries.specs.Partial.{matchedBy}
+use Rattle.tries.specs.Known.{Knows}
 use Rattle.tries.specs.Solve.{solvedAt, HasConjunct}
 use Rattle.tries.specs.Range.{valueAt, CountsValues}
 
@@ -88,7 +89,8 @@ Told ws ps position v inputs conjuncts ms begins e r (Match k) = (k < length inp
 Told ws ps position v inputs conjuncts ms begins e r (Solve k) = (k < length conjuncts → (r .count ≡ 1) × (r .from ≡ getD conjuncts k 0)) × (length conjuncts ≤ k → r .count ≡ 0)
 Told ws ps position v inputs conjuncts ms begins e r (InRange n) = (n < v → CountsValues (getD ws (position + 1 + n) 0) (r .count)) × (v ≤ n → r .count ≡ 0)
 
-pub record IsArrival (ws ps : List ℕ) (position v : ℕ) (inputs conjuncts ms begins : List ℕ) (e : Element) (r : Step) : Type 0 where
+pub record IsArrival (ws ps : List ℕ) (position v : ℕ) (inputs conjuncts ms begins : List ℕ) (e : Element) (b : List ℕ) (r : Step) : Type 0 where
   pub element : r .element ≡ e
   pub safe : Safe ms v r
+  pub knows : Knows v b (r .parts) (r .known)
   pub told : Told ws ps position v inputs conjuncts ms begins e r (e .sort)

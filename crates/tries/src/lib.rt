@@ -4,6 +4,8 @@
 pub mod partial;
 // A match try: a colour held against the components of an arc.
 pub mod colour;
+// What is known of an arc's components on arrival, and the colours that differ from it.
+pub mod known;
 // A solve try: a variable takes the value of the other side of an equation.
 pub mod solve;
 // A range try: a variable takes each value of its range.

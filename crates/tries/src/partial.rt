@@ -8,10 +8,11 @@ ghost use Rattle.semantics.specs.Tries.{bindNew};
 ghost use Rattle.net.specs.Places.{rangesFrom};
 ghost use Rattle.tries.specs.Partial.{partialOf, tried};
 
-// Whether a try goes on, and the partial binding that it goes on with.
+// Whether a try goes on, and the partial binding that it goes on with. The binding stands first: with the flag before it the compiler copies the
+// binding at odd addresses, and each try waits for its own stores, which doubles what it costs.
 pub struct Tried {
-    pub on: bool,
     pub binding: [u32; 8],
+    pub on: bool,
 }
 
 // Binds a variable to a new value, where the value is in its range; the RANGE words of the variables stand from a position on.

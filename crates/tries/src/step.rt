@@ -1,5 +1,7 @@
 // An arrival at an element of a plan: how many tries it makes, and each of them.
 use crate::colour::match_colour;
+use crate::known::differs;
+use crate::known::known_parts;
 use crate::partial::Tried;
 use crate::range::count_values;
 use crate::range::take_value;
@@ -14,24 +16,26 @@ use word::fields::payload;
 ghost use mathlib.Core.Path.{_≡_};
 ghost use mathlib.Core.Option.{none};
 ghost use Prim.Native.Nat.{_≤_, _<_, _+_};
-ghost use lib.ListN.{length, getD};
+ghost use lib.ListN.{length, getD, replicate};
 ghost use Rattle.net.specs.Places.{PlacesFit};
 ghost use Rattle.tries.specs.Partial.{partialOf, tried};
+ghost use Rattle.tries.specs.Known.{Knows};
 ghost use Rattle.tries.specs.Step.{IsParts, IsMatch, IsArrival, Safe, Ready, triesBy};
 
 // A search step: the element that was arrived at, its number of tries, and what they need: for a match where the entries of its place begin, the
-// components of a colour there and the first words of the arc's components; for a solve where its conjunct stands.
+// components of a colour there, the first words of the arc's components and the values that are known of them; for a solve where its conjunct stands.
 pub struct Step {
     pub element: Element,
     pub count: usize,
     pub from: usize,
     pub width: usize,
     pub parts: [u32; 4],
+    pub known: [u32; 4],
 }
 
 // An element without tries.
 fn no_tries(e: Element) -> Step
-    ensures { λ r. ⌜ (r .element ≡ e) × (r .count ≡ 0) × (r .from ≡ 0) × (r .width ≡ 0) ⌝ }
+    ensures { λ r. ⌜ (r .element ≡ e) × (r .count ≡ 0) × (r .from ≡ 0) × (r .width ≡ 0) × (r .known ≡ replicate 4 0) ⌝ }
 {
     Step {
         element: e,
@@ -39,6 +43,7 @@ fn no_tries(e: Element) -> Step
         from: 0,
         width: 0,
         parts: [0; 4],
+        known: [0; 4],
     }
 }
 
@@ -73,11 +78,13 @@ fn arrive_match(
     marking: &[u32],
     begins: &[usize],
     e: Element,
+    b: [u32; 8],
     at: usize,
 ) -> Step
     requires { ⌜ PlacesFit (now net) (now places) ⌝ }
     requires { ⌜ length (now begins) ≡ 65 ⌝ }
-    ensures { λ r. ⌜ IsMatch (now (net .entry)) (now (places .entry)) variables (now (marking .entry)) (now (begins .entry)) e at r ⌝ }
+    requires { ⌜ variables ≤ 8 ⌝ }
+    ensures { λ r. ⌜ IsMatch (now (net .entry)) (now (places .entry)) variables (now (marking .entry)) (now (begins .entry)) e at r × Knows variables b (r .parts) (r .known) ⌝ }
 {
     match take(net, at, 5) {
         Taken::Word(q) => {
@@ -96,12 +103,14 @@ fn arrive_match(
             match skip_expression(net, variables, at + 1) {
                 Skipped::Next(first) => {
                     let width = payload(net[places[place]]) as usize;
+                    let parts = parts_at(net, variables, first, width);
                     Step {
                         element: e,
                         count: (to - from) / (width + 1),
                         from: from,
                         width: width,
-                        parts: parts_at(net, variables, first, width),
+                        parts: parts,
+                        known: known_parts(variables, b, width, parts),
                     }
                 }
                 Skipped::Refused(_, _) => no_tries(e),
@@ -111,7 +120,7 @@ fn arrive_match(
     }
 }
 
-// An arrival at an element of the transition at a position, whose input arcs and conjuncts stand at these positions.
+// An arrival at an element of the transition at a position, whose input arcs and conjuncts stand at these positions, with a partial binding.
 pub fn arrive(
     net: &[u32],
     places: &[usize],
@@ -122,11 +131,12 @@ pub fn arrive(
     marking: &[u32],
     begins: &[usize],
     e: Element,
+    b: [u32; 8],
 ) -> Step
     requires { ⌜ PlacesFit (now net) (now places) ⌝ }
     requires { ⌜ length (now begins) ≡ 65 ⌝ }
     requires { ⌜ (variables ≤ 8) × (position + 1 + variables ≤ length (now net)) ⌝ }
-    ensures { λ r. ⌜ IsArrival (now (net .entry)) (now (places .entry)) position variables (now (inputs .entry)) (now (conjuncts .entry)) (now (marking .entry)) (now (begins .entry)) e r ⌝ }
+    ensures { λ r. ⌜ IsArrival (now (net .entry)) (now (places .entry)) position variables (now (inputs .entry)) (now (conjuncts .entry)) (now (marking .entry)) (now (begins .entry)) e b r ⌝ }
 {
     let sort = e.sort;
     match sort {
@@ -134,7 +144,7 @@ pub fn arrive(
             if inputs.len() <= k {
                 return no_tries(e);
             }
-            arrive_match(net, places, variables, marking, begins, e, inputs[k])
+            arrive_match(net, places, variables, marking, begins, e, b, inputs[k])
         }
         Sort::Solve(j) => {
             if conjuncts.len() <= j {
@@ -146,6 +156,7 @@ pub fn arrive(
                 from: conjuncts[j],
                 width: 0,
                 parts: [0; 4],
+                known: [0; 4],
             }
         }
         Sort::Range(n) => {
@@ -158,6 +169,7 @@ pub fn arrive(
                 from: 0,
                 width: 0,
                 parts: [0; 4],
+                known: [0; 4],
             }
         }
     }
@@ -176,6 +188,7 @@ pub fn try_at(
     requires { ⌜ (variables ≤ 8) × (ranges + variables ≤ length (now net)) ⌝ }
     requires { ⌜ Safe (now marking) variables s ⌝ }
     requires { ⌜ Ready (now net) variables s ⌝ }
+    requires { ⌜ Knows variables b (s .parts) (s .known) ⌝ }
     requires { ⌜ i < s .count ⌝ }
     ensures { λ r. ⌜ tried variables r ≡ getD (triesBy (now (net .entry)) ranges variables (now (marking .entry)) s (partialOf variables b)) i none ⌝ }
 {
@@ -184,17 +197,16 @@ pub fn try_at(
     match sort {
         Sort::Match(_) => {
             let width = s.width;
+            let at = s.from + i * (width + 1) + 1;
+            let known = s.known;
+            if differs(marking, at, width, known) {
+                return Tried {
+                    binding: b,
+                    on: false,
+                };
+            }
             let parts = s.parts;
-            match_colour(
-                net,
-                ranges,
-                variables,
-                marking,
-                s.from + i * (width + 1) + 1,
-                width,
-                parts,
-                b,
-            )
+            match_colour(net, ranges, variables, marking, at, width, parts, b)
         }
         Sort::Solve(_) => solve_at(net, ranges, variables, b, s.from),
         Sort::Range(n) => take_value(net, ranges, variables, b, n, i),

@@ -79,10 +79,10 @@ walk-returns-2 : (t : ℕ) → walk-lts.Need-returns-2 (calls t) (walk-at t) wal
 walk-returns-2 t c = let P = (stepping (c .before .before .before .before .before .before .before .before .before .before .before .before .before .before .before .before .pre .1 .0) (c .before .before .before .before .before .before .before .before .before .before .before .before .before .before .before .before .args .depth) (c .before .before .before .before .before .before .before .before .before .before .before .before .before .before .before .before .args .b) (c .before .before .before .before .before .before .before .before .before .before .before .before .before .before .before .before .pre .1 .1 .1 .0) (let h = c .before .before .before .before .before .before .before .before .before .before .before .before .before .before .before .before .pre .1 .1 .0 in let n = c .before .before .before .before .before .before .before .if1 .left in omega arith) (c .before .before .before .before .before .element-at .ensures) (c .before .before .before .before .arrive .ensures)) in ended-same (P .cost) (P .rows) (ended-spent (c .before .before .before .loop .inv) (rw (P .count) (c .before .if2 .taken)) (c .if3 .taken))
 
 walk-add-try-at : (t : ℕ) → walk-lts.Need-add-try-at (calls t) (walk-at t) walk.Post walk-Inv-loop walk-μ-loop
-walk-add-try-at t c = let r = ranges-fit (c .before .before .before .before .before .before .before .before .before .before .before .before .before .before .before .before .pre .1 .0) in search needs
+walk-add-try-at t c = let r = ranges-fit (c .before .before .before .before .before .before .before .before .before .before .before .before .before .before .before .before .pre .1 .0) in let g = c .before .before .before .before .before .before .before .before .before .before .before .before .before .before .before .before .good .0 in search needs
 
 walk-try-at-requires : (t : ℕ) → walk-lts.Need-try-at-requires (calls t) (walk-at t) walk.Post walk-Inv-loop walk-μ-loop
-walk-try-at-requires t c κs = let P = (stepping (c .before .before .before .before .before .before .before .before .before .before .before .before .before .before .before .before .pre .1 .0) (c .before .before .before .before .before .before .before .before .before .before .before .before .before .before .before .before .args .depth) (c .before .before .before .before .before .before .before .before .before .before .before .before .before .before .before .before .args .b) (c .before .before .before .before .before .before .before .before .before .before .before .before .before .before .before .before .pre .1 .1 .1 .0) (let h = c .before .before .before .before .before .before .before .before .before .before .before .before .before .before .before .before .pre .1 .1 .0 in let n = c .before .before .before .before .before .before .before .if1 .left in omega arith) (c .before .before .before .before .before .element-at .ensures) (c .before .before .before .before .arrive .ensures)) in ((few-variables (c .before .before .before .before .before .before .before .before .before .before .before .before .before .before .before .before .pre .1 .0), ranges-fit (c .before .before .before .before .before .before .before .before .before .before .before .before .before .before .before .before .pre .1 .0)), (P .safe, (P .ready, c .before .if2 .taken)))
+walk-try-at-requires t c κs = let P = (stepping (c .before .before .before .before .before .before .before .before .before .before .before .before .before .before .before .before .pre .1 .0) (c .before .before .before .before .before .before .before .before .before .before .before .before .before .before .before .before .args .depth) (c .before .before .before .before .before .before .before .before .before .before .before .before .before .before .before .before .args .b) (c .before .before .before .before .before .before .before .before .before .before .before .before .before .before .before .before .pre .1 .1 .1 .0) (let h = c .before .before .before .before .before .before .before .before .before .before .before .before .before .before .before .before .pre .1 .1 .0 in let n = c .before .before .before .before .before .before .before .if1 .left in omega arith) (c .before .before .before .before .before .element-at .ensures) (c .before .before .before .before .arrive .ensures)) in ((few-variables (c .before .before .before .before .before .before .before .before .before .before .before .before .before .before .before .before .pre .1 .0), ranges-fit (c .before .before .before .before .before .before .before .before .before .before .before .before .before .before .before .before .pre .1 .0)), (P .safe, (P .ready, (P .knows, c .before .if2 .taken))))
 
 walk-add-walk : (t : ℕ) → walk-lts.Need-add-walk (calls t) (walk-at t) walk.Post walk-Inv-loop walk-μ-loop
 walk-add-walk t c = let f = few-elements (c .before .before .before .before .before .before .before .before .before .before .before .before .before .before .before .before .before .before .before .pre .1 .0) in let h = c .before .before .before .before .before .before .before .before .before .before .before .before .before .before .before .before .before .before .before .pre .1 .1 .0 in let n = c .before .before .before .before .before .before .before .before .before .before .if1 .left in search needs
