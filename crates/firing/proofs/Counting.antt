@@ -105,7 +105,7 @@ module _ {ws ps ik ia ok oa begins : List ℕ} (m : Moves ws ps ik ia ok oa begi
   pub all-low : Low (ik ++ ok)
   all-low = every-low (ik ++ ok) all-fit
 
-  all-few : length (ik ++ ok) ≤ 16
+  pub all-few : length (ik ++ ok) ≤ 16
   all-few = let a = m .ins .few in let b = m .outs .few in omega (arith, length-append ik ok)
 
   -- a key that is asked for is the first of those from itself on
@@ -113,7 +113,7 @@ module _ {ws ps ik ia ok oa begins : List ℕ} (m : Moves ws ps ik ia ok oa begi
     pub next-same : keysFrom key (ik ++ ok) ≡ keysFrom floor (ik ++ ok)
     next-same = rw e (keys-stay floor (ik ++ ok) all-low)
 
-    pub next-first : key ≡ firstOf (keysFrom key (ik ++ ok))
+    next-first : key ≡ firstOf (keysFrom key (ik ++ ok))
     next-first = e ∙ ap firstOf (sym next-same)
 
   pub key-fits : {k : ℕ} → k ≡ firstOf (keysFrom k (ik ++ ok)) → k < noKey → KeyFits ws ps k
@@ -150,7 +150,7 @@ module _ {ws ps ik ia ok oa ms begins : List ℕ} (m : Moves ws ps ik ia ok oa b
       }
 
   module _ {k old new : ℕ} (a : Measuring ws ps ik ia ok oa ms begins k old new) where
-    pub measuring-end : noKey ≤ k → IsMeasured ws ps ik ia ok oa ms begins (record { over = false; old = old; new = new })
+    pub measuring-end : noKey ≤ k → {n : ℕ} → IsMeasured ws ps ik ia ok oa ms begins (record { over = false; n = n; old = old; new = new })
     unfolding every oldLength newLength
     measuring-end h =
         let e = keys-none k (ik ++ ok) (a .first) (all-low m) h in
@@ -166,7 +166,7 @@ module _ {ws ps ik ia ok oa ms begins : List ℕ} (m : Moves ws ps ik ia ok oa b
       keys-are : keysFrom k (ik ++ ok) ≡ k ∷ keysFrom (k + 1) (ik ++ ok)
       keys-are = keys-next k (ik ++ ok) (a .first) h
 
-      pub measuring-over : c .over ≡ true → IsMeasured ws ps ik ia ok oa ms begins (record { over = true; old = 0; new = 0 })
+      pub measuring-over : c .over ≡ true → IsMeasured ws ps ik ia ok oa ms begins (record { over = true; n = 0; old = 0; new = 0 })
       unfolding every
       measuring-over t = record {
         over = λ es v. let w = not-true (within ws ps (after ws ps ik ia ok oa es) k) (sym (x .over es v) ∙ t) in ap not (rw (keys-are, w) at (a .limit es v));

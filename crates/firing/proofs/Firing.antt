@@ -3,7 +3,7 @@
 use mathlib.Core.Path.{_≡_, refl, sym, ap, _∙_, subst, fun-ext}
 use mathlib.Core.Logic.{_⊎_, inl, inr}
 use Prim.Native.Nat.{ℕ, _≤_, _<_}
-use mathlib.Core.Bool.{Bool, true, false, cond, not}
+use mathlib.Core.Bool.{Bool, true, false, cond, not, _&&_}
 use mathlib.Core.List.{List, [], _∷_, _++_, List·Memᴰ, Memᴰ·append-right}
 use mathlib.Core.Option.{Option, none, some}
 use native.Mathlib.Omega.{arith}
@@ -16,22 +16,26 @@ use Rattle.semantics.specs.declared.Fired.the-variants.{Refused as FireRefused}
 use Rattle.semantics.specs.Refusal.{mostCount, notEnabled, badOutput, overCount}
 use Rattle.semantics.specs.Lists.{every, select}
 use Rattle.semantics.specs.Expression.{houseTable, bound, given}
-use Rattle.semantics.specs.Net.{Arc}
+use Rattle.semantics.specs.Reading.{read}
+use Rattle.semantics.specs.Net.{Place, Arc}
 use Rattle.semantics.specs.Marking.{Counts, Proper, countsOf}
-use Rattle.semantics.specs.Enabling.{Flow, effect, flows, isEnabled, fits, withinCounts, Firing, moved, stopped, occurBy, occur}
+use Rattle.semantics.specs.Enabling.{Flow, effect, flows, coversAll, isEnabled, fits, withinCounts, Firing, moved, stopped, occurBy, occur}
 use Rattle.semantics.specs.Run.{roomed, fire}
 use Rattle.semantics.specs.Calls.{firedBy}
-use Rattle.semantics.proofs.Tests.{either, same-test, Every-at, every-at, every-of}
+use Rattle.semantics.proofs.Tests.{either, not-both, same-test, Every-at, every-at, every-of}
 use Rattle.semantics.proofs.Enabling.{at-named}
 use Rattle.semantics.proofs.Markings.{step-proper}
 use Rattle.semantics.proofs.Step.{Limited, within-all, all-within, occurs-step}
 use Rattle.semantics.proofs.Members.{none-some}
+use Rattle.net.specs.Places.{PlacesFit}
+use Rattle.marking.specs.Marked.{markingRead}
 use Rattle.marking.proofs.Counted.{marking-counts}
 use Rattle.arcs.specs.declared.gather.Gathered.{Gathered}
-use Rattle.arcs.specs.Flow.{flowsAt}
+use Rattle.arcs.specs.Flow.{guardAt, flowsAt}
 use Rattle.arcs.specs.Keys.{keyPlace, keyColour, keyFlows, fitsAt, moving, gatheredBy, IsGathered}
 use Rattle.arcs.proofs.Keyed.{total-moving, flow-keyed}
-use Rattle.occurrence.specs.Answers.{IsTaken}
+use Rattle.occurrence.specs.Answers.{IsEnabledAt, IsTaken}
+use Rattle.occurrence.proofs.Covering.{taken-unguarded, taken-unmoved}
 use Rattle.occurrence.proofs.Reading.{inputs-told, outputs-told, enabled-told}
 use Rattle.firing.specs.Keys.{keysFrom}
 use Rattle.firing.specs.Fire.{FireableAt, fireEnd}
@@ -56,13 +60,23 @@ gathers ws ps (some fs) ks as′ e = by (either (every (fitsAt ws ps) fs))
         record { flows-are = fs; told = refl; fit = h; moving-are = sym b }
     by (inr h) = none-some (sym (e ∙ ap (λ (t : Bool). given t (select moving fs)) h))
 
--- keys that were gathered, with their amounts
-pub gathered-keyed : {ws ps bs ats : List ℕ} {r : Gathered} {keys amounts : List ℕ} → IsGathered ws ps bs ats r keys amounts → length keys ≡ 8 → length amounts ≡ 8 → Keyed ws ps (take (r .n) keys) (take (r .n) amounts)
-gathered-keyed {r = r} {keys = keys} {amounts = amounts} x k a =
-    let few = x .few in
-    let i = length-take-le (r .n) keys (omega arith) in
-    let j = length-take-le (r .n) amounts (omega arith) in
-    record { few = omega arith; same = j ∙ sym i; fit = x .fit }
+-- keys that were gathered, with their amounts, are taken and made
+pub gathered-moves : {ws ps bs is os begins : List ℕ} {ins outs : Gathered} {ikeys iamounts okeys oamounts : List ℕ} → PlacesFit ws ps → length begins ≡ 65 → IsGathered ws ps bs is ins ikeys iamounts → length ikeys ≡ 8 → length iamounts ≡ 8 → IsGathered ws ps bs os outs okeys oamounts → length okeys ≡ 8 → length oamounts ≡ 8 → Moves ws ps (take (ins .n) ikeys) (take (ins .n) iamounts) (take (outs .n) okeys) (take (outs .n) oamounts) begins
+gathered-moves {ws} {ps} {bs} fits full i a b o c d = record { fits = fits; begins-full = full; ins = keyed i a b; outs = keyed o c d }
+  where
+    keyed : {ats : List ℕ} {r : Gathered} {keys amounts : List ℕ} → IsGathered ws ps bs ats r keys amounts → length keys ≡ 8 → length amounts ≡ 8 → Keyed ws ps (take (r .n) keys) (take (r .n) amounts)
+    keyed {r = r} {keys = keys} {amounts = amounts} x k a =
+        let few = x .few in
+        let i = length-take-le (r .n) keys (omega arith) in
+        let j = length-take-le (r .n) amounts (omega arith) in
+        record { few = omega arith; same = j ∙ sym i; fit = x .fit }
+
+gathered-some : {ws ps bs ats : List ℕ} {r : Gathered} {keys amounts : List ℕ} → r .some ≡ true → IsGathered ws ps bs ats r keys amounts → IsGathered ws ps bs ats (record { some = true; n = r .n }) keys amounts
+gathered-some s x = record { same = rw s at (x .same); few = x .few; fit = x .fit }
+
+-- what was taken is what an enabled binding takes
+pub taken-known : {ws ps gs is ms begins bs : List ℕ} {r : Gathered} {keys amounts : List ℕ} → IsTaken ws ps gs is ms begins bs r keys amounts → not (r .some) ≡ false → IsEnabledAt ws ps gs is ms begins bs true × IsGathered ws ps bs is (record { some = true; n = r .n }) keys amounts
+taken-known {r = r} x d = let s = not-false (r .some) d in (rw s at (x .enabled), gathered-some s (x .gathered s))
 
 -- the effect of flows is that of the keys gathered from them
 effect-keys : (m : Counts) (ws ps : List ℕ) (fs gs : List Flow) (ik ia ok oa : List ℕ) → select moving fs ≡ keyFlows ws ps ik ia → select moving gs ≡ keyFlows ws ps ok oa → effect m fs gs ≡ effect m (keyFlows ws ps ik ia) (keyFlows ws ps ok oa)
@@ -91,24 +105,47 @@ module _ {ws ps gs is os ms begins bs : List ℕ} (q : FireableAt ws ps gs is os
 
   -- ── 13 ──
 
-  module _ {ins : Gathered} {ikeys iamounts : List ℕ} (i : IsTaken ws ps gs is ms begins bs ins ikeys iamounts) where
-    enabled-is : ins .some ≡ isEnabled houseTable (q .transition) (countsOf (q .entries)) (q .binding)
-    enabled-is = enabled-told ws bs (q .net .places) (q .at) (q .transition) (q .after) (q .there) (q .many) ps (q .placed) (q .guard-at) (q .inputs-at) (q .entries) (q .end) (q .marked) (q .begun) (q .binding) (q .values) (i .enabled)
+  module _ {r : Bool} (i : IsEnabledAt ws ps gs is ms begins bs r) where
+    enabled-is : r ≡ isEnabled houseTable (q .transition) (countsOf (q .entries)) (q .binding)
+    enabled-is = enabled-told ws bs (q .net .places) (q .at) (q .transition) (q .after) (q .there) (q .many) ps (q .placed) (q .guard-at) (q .inputs-at) (q .entries) (q .end) (q .marked) (q .begun) (q .binding) (q .values) i
 
-    pub fired-13 : (buffer : List ℕ) → not (ins .some) ≡ true → fireEnd (FireRefused notEnabled 0) buffer ≡ firedBy (q .net) buffer (fire houseTable (q .net) (length buffer) (q .transition) (countsOf (q .entries)) (q .binding))
+    pub fired-13 : (buffer : List ℕ) → not r ≡ true → fireEnd (FireRefused notEnabled 0) buffer ≡ firedBy (q .net) buffer (fire houseTable (q .net) (length buffer) (q .transition) (countsOf (q .entries)) (q .binding))
     unfolding fire occur
     fired-13 buffer d =
-        let e : isEnabled houseTable (q .transition) (countsOf (q .entries)) (q .binding) ≡ false = sym enabled-is ∙ not-true (ins .some) d in
+        let e : isEnabled houseTable (q .transition) (countsOf (q .entries)) (q .binding) ≡ false = sym enabled-is ∙ not-true r d in
         rw e
 
-    module _ (d : not (ins .some) ≡ false) where
-      enabled : isEnabled houseTable (q .transition) (countsOf (q .entries)) (q .binding) ≡ true
-      enabled = sym enabled-is ∙ not-false (ins .some) d
+  -- a binding that semantics says is enabled is enabled for the code
+  pub enabled-at : isEnabled houseTable (q .transition) (countsOf (q .entries)) (q .binding) ≡ true → IsEnabledAt ws ps gs is ms begins bs true
+  enabled-at e = subst (IsEnabledAt ws ps gs is ms begins bs) (enabled-is here ∙ e) here
+    where
+      here : IsEnabledAt ws ps gs is ms begins bs (guardAt ws bs gs && coversAll (countsOf (q .entries)) (flowsAt ws ps bs is))
+      here = record {
+        enabled = λ places p es next m b.
+            let o : read (q .entries) (q .end) ≡ read es next = sym (q .marked) ∙ ap (λ (l : List Place). markingRead l ms) (q .placed ∙ sym p) ∙ m in
+            let s : q .entries ≡ es = cc in
+            rw s;
+      }
 
-      taken : Gathers ws ps (flows houseTable (bound (q .binding)) (q .transition .inputs)) (take (ins .n) ikeys) (take (ins .n) iamounts)
-      taken =
-          let s = not-false (ins .some) d in
-          gathers ws ps (flows houseTable (bound (q .binding)) (q .transition .inputs)) (take (ins .n) ikeys) (take (ins .n) iamounts) (sym (ap (λ (u : Bool). given u (keyFlows ws ps (take (ins .n) ikeys) (take (ins .n) iamounts))) s) ∙ i .gathered s .same ∙ ap (gatheredBy ws ps) inputs-are)
+  module _ (e : IsEnabledAt ws ps gs is ms begins bs true) where
+    enabled : isEnabled houseTable (q .transition) (countsOf (q .entries)) (q .binding) ≡ true
+    enabled = sym (enabled-is e)
+
+    -- so all that its input arcs take is gathered
+    pub enabled-gathered : {ins : Gathered} {ikeys iamounts : List ℕ} → IsGathered ws ps bs is ins ikeys iamounts → IsGathered ws ps bs is (record { some = true; n = ins .n }) ikeys iamounts
+    enabled-gathered {ins} {ikeys} {iamounts} x = gathered-some (by (either (ins .some))) x
+      where
+        unmoved : ins .some ≡ false → (guardAt ws bs gs ≡ true) ⊎ (guardAt ws bs gs ≡ false) → IsTaken ws ps gs is ms begins bs (record { some = false; n = 0 }) ikeys iamounts
+        unmoved f (inl g) = taken-unmoved ws ps gs is ms begins bs {g = guardAt ws bs gs} refl (ap not g) x (ap not f)
+        unmoved f (inr g) = taken-unguarded ws ps gs is ms begins bs {g = guardAt ws bs gs} refl (ap not g)
+
+        by : (ins .some ≡ true) ⊎ (ins .some ≡ false) → ins .some ≡ true
+        by (inl t) = t
+        by (inr f) = absurd (not-both _ enabled (sym (enabled-is (unmoved f (either (guardAt ws bs gs)) .enabled))))
+
+    module _ {n : ℕ} {ikeys iamounts : List ℕ} (i : IsGathered ws ps bs is (record { some = true; n = n }) ikeys iamounts) where
+      taken : Gathers ws ps (flows houseTable (bound (q .binding)) (q .transition .inputs)) (take n ikeys) (take n iamounts)
+      taken = gathers ws ps (flows houseTable (bound (q .binding)) (q .transition .inputs)) (take n ikeys) (take n iamounts) (i .same ∙ ap (gatheredBy ws ps) inputs-are)
 
       -- ── 14 ──
 
@@ -123,7 +160,7 @@ module _ {ws ps gs is os ms begins bs : List ℕ} (q : FireableAt ws ps gs is os
 
         pub fired-14 : (buffer : List ℕ) → not (outs .some) ≡ true → fireEnd (FireRefused badOutput 0) buffer ≡ firedBy (q .net) buffer (fire houseTable (q .net) (length buffer) (q .transition) (countsOf (q .entries)) (q .binding))
         unfolding fire occur
-        fired-14 buffer n = rw (enabled, taken .told) (by (flows houseTable (bound (q .binding)) (q .transition .outputs)) (sym (ap (λ (s : Bool). given s (keyFlows ws ps (take (outs .n) okeys) (take (outs .n) oamounts))) (not-true (outs .some) n)) ∙ made-is))
+        fired-14 buffer d = rw (enabled, taken .told) (by (flows houseTable (bound (q .binding)) (q .transition .outputs)) (sym (ap (λ (s : Bool). given s (keyFlows ws ps (take (outs .n) okeys) (take (outs .n) oamounts))) (not-true (outs .some) d)) ∙ made-is))
           where
             by : (x : Option (List Flow)) → none ≡ gatheredBy ws ps x → fireEnd (FireRefused badOutput 0) buffer ≡ firedBy (q .net) buffer (roomed (q .net) (length buffer) (occurBy (q .net) (countsOf (q .entries)) (some (taken .flows-are)) x))
             by none e = refl
@@ -135,15 +172,15 @@ module _ {ws ps gs is os ms begins bs : List ℕ} (q : FireableAt ws ps gs is os
 
         -- ── 15, 16, or the new marking ──
 
-        module _ (n : not (outs .some) ≡ false) where
+        module _ (d : not (outs .some) ≡ false) where
           made : Gathers ws ps (flows houseTable (bound (q .binding)) (q .transition .outputs)) (take (outs .n) okeys) (take (outs .n) oamounts)
-          made = gathers ws ps (flows houseTable (bound (q .binding)) (q .transition .outputs)) (take (outs .n) okeys) (take (outs .n) oamounts) (sym (ap (λ (s : Bool). given s (keyFlows ws ps (take (outs .n) okeys) (take (outs .n) oamounts))) (not-false (outs .some) n)) ∙ made-is)
+          made = gathers ws ps (flows houseTable (bound (q .binding)) (q .transition .outputs)) (take (outs .n) okeys) (take (outs .n) oamounts) (sym (ap (λ (s : Bool). given s (keyFlows ws ps (take (outs .n) okeys) (take (outs .n) oamounts))) (not-false (outs .some) d)) ∙ made-is)
 
           abbrev ik : List ℕ
-          ik = take (ins .n) ikeys
+          ik = take n ikeys
 
           abbrev ia : List ℕ
-          ia = take (ins .n) iamounts
+          ia = take n iamounts
 
           abbrev ok : List ℕ
           ok = take (outs .n) okeys

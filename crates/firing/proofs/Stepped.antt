@@ -1,36 +1,31 @@
--- The rules of a step: the changes of its keys lead to the counts after it, so the words with the changes made are the words of these counts; and of
--- writing them, change by change.
-use mathlib.Core.Path.{_≡_, refl, sym, ap, _∙_, subst}
-use mathlib.Core.Bool.{true, false, not}
-use mathlib.Core.List.{List, [], _∷_, _++_, map, List·Memᴰ, List·Memᴰ·head, Memᴰ·map, Memᴰ·append-left, Memᴰ·append-right}
+-- The rules of a step: the changes of its keys lead to the counts after it, so the words with the changes made are the words of these counts.
+use mathlib.Core.Path.{_≡_, refl, sym, ap, _∙_}
+use mathlib.Core.Bool.{true, false}
+use mathlib.Core.List.{List, [], _∷_, _++_, map, List·Memᴰ, Memᴰ·map, Memᴰ·append-left, Memᴰ·append-right}
 use Prim.Native.Nat.{ℕ, zero, suc, _+_, _-_, _≤_, _<_}
 use borrow.Author.Tests.{le-leb, lt-leb, not-true, not-false}
 use native.Mathlib.Omega.{arith}
-use lib.Dec.{leb}
 use lib.IntN.{ℤ}
 use lib.ListN.{length, drop}
-use lib.Seq.{slice}
 use Rattle.semantics.specs.declared.Fired.the-variants.{Written, Refused as FireRefused}
 use Rattle.semantics.specs.Refusal.{overCount, overRoom, mostWords}
 use Rattle.semantics.specs.Lists.{Every, every}
 use Rattle.semantics.specs.Reading.{read}
 use Rattle.semantics.specs.Order.{before, Rising}
-use Rattle.semantics.specs.Marking.{Entry, key, Counts, entryWords, markingWords}
+use Rattle.semantics.specs.Marking.{Entry, key, Counts, markingWords}
 use Rattle.semantics.specs.Enabling.{total}
-use Rattle.semantics.proofs.Tests.{every-at, Every-at, Every-of, selected}
+use Rattle.semantics.proofs.Tests.{Every-at, Every-of}
 use Rattle.semantics.proofs.Markings.{total-some}
 use Rattle.marking.specs.Marked.{markingRead}
 use Rattle.arcs.specs.Keys.{keyPlace, keyColour, keyFlows, KeyFits}
 use Rattle.arcs.proofs.Keyed.{keys-before, flow-keyed}
-use Rattle.patch.specs.Patch.{Change, changeKey, patched, Told, Untouched, Changing, InOrder, written}
+use Rattle.patch.specs.Patch.{Change, changeKey, patched, Told, Untouched, Changing, InOrder}
 use Rattle.patch.proofs.Patched.{patched-words, patched-ordered, patched-size}
-use Rattle.patch.proofs.Writing.{Done, done-start, done-inside, done-room, done-turn, end-inside, end-room, done-end}
-use Rattle.firing.specs.declared.change.Changed.{Changed}
-use Rattle.firing.specs.declared.step.Measured.{Measured}
-use Rattle.firing.specs.Keys.{sortKeys, keysFrom, noKey, firstOf}
-use Rattle.firing.specs.Changes.{Moves, after, within, changeAt, changesFrom, IsChange, IsMeasured, Stepping, Writable, IsWritten, IsStep}
-use Rattle.firing.proofs.Sorted.{Up, sort-in, sort-of, keys-next, keys-none, keys-all, keys-up}
-use Rattle.firing.proofs.Counting.{all-fit, all-low, next-same, next-first}
+use Rattle.firing.specs.declared.step.Listed.{Listed}
+use Rattle.firing.specs.Keys.{sortKeys, keysFrom}
+use Rattle.firing.specs.Changes.{after, within, changeAt, changesFrom, IsListed, Stepping, Writable, IsWritten, IsStep}
+use Rattle.firing.proofs.Sorted.{Up, sort-in, sort-of, keys-all, keys-up}
+use Rattle.firing.proofs.Counting.{all-fit}
 
 -- ── The changes of a step ──
 
@@ -85,110 +80,50 @@ module _ {ws ps ik ia ok oa ms begins : List ℕ} (q : Stepping ws ps ik ia ok o
       proper = q .proper l;
     }
 
-    pub step-ordered : InOrder ms 0 all
+    step-ordered : InOrder ms 0 all
     step-ordered = patched-ordered (q .net .places) ms (q .entries) (q .sees .next) marked (q .net) new all changing
 
     step-words : patched ms 0 all ≡ markingWords (q .net) new
     step-words = patched-words (q .net .places) ms (q .entries) (q .sees .next) marked (q .net) new all changing
 
--- ── Writing ──
-
--- what is written before a key
-pub record Passing (ws ps ik ia ok oa ms begins buffer : List ℕ) (k from at : ℕ) (d : List ℕ) : Type 0 where
-  pub first : k ≡ firstOf (keysFrom k (ik ++ ok))
-  pub long : length d ≡ length buffer
-  pub done : (w : Writable ws ps ik ia ok oa ms begins buffer) → Done ms (changesFrom ws ps (w .step .entries) (after ws ps ik ia ok oa (w .step .entries)) (ik ++ ok) 0) (changesFrom ws ps (w .step .entries) (after ws ps ik ia ok oa (w .step .entries)) (ik ++ ok) k) buffer from at d
-
-module _ {ws ps ik ia ok oa ms begins buffer : List ℕ} (w : Writable ws ps ik ia ok oa ms begins buffer) where
-  moves-of : Moves ws ps ik ia ok oa begins
-  moves-of = w .step .moves
-
-  pub passing-start : {k : ℕ} → k ≡ firstOf (keysFrom 0 (ik ++ ok)) → Passing ws ps ik ia ok oa ms begins buffer k 0 0 buffer
-  passing-start {k} e = record {
-    first = next-first moves-of 0 e;
-    long = refl;
-    done = λ v. rw (next-same moves-of 0 e) (done-start buffer (step-ordered (v .step) (v .limited)));
-  }
-
-  module _ {k from at : ℕ} {d : List ℕ} (a : Passing ws ps ik ia ok oa ms begins buffer k from at d) where
-    module _ (h : k < noKey) {c : Changed} (x : IsChange ws ps ik ia ok oa ms begins k c) where
-      abbrev told-change : Change
-      told-change = record { place = keyPlace k; colour = keyColour ws ps k; count = c .count; at = c .at; old = c .old }
-
-      -- no count passes the limit
-      inside-limit : (v : Writable ws ps ik ia ok oa ms begins buffer) → c .over ≡ false
-      unfolding keysFrom
-      inside-limit v =
-          let e = keys-next k (ik ++ ok) (a .first) h in
-          let i : List·Memᴰ k (keysFrom k (ik ++ ok)) = subst (λ (l : List ℕ). List·Memᴰ k l) (sym e) (List·Memᴰ·head refl) in
-          let j = in-keys (v .step) k (sort-of (ik ++ ok) (selected (leb k) (sortKeys (ik ++ ok)) i .0)) in
-          x .over (v .step .entries) (v .step .sees) ∙ ap not (every-at (within ws ps (after ws ps ik ia ok oa (v .step .entries))) (v .limited) j)
-
-      -- the change of the key is the next one
-      next-done : (v : Writable ws ps ik ia ok oa ms begins buffer) → Done ms (changesFrom ws ps (v .step .entries) (after ws ps ik ia ok oa (v .step .entries)) (ik ++ ok) 0) (told-change ∷ changesFrom ws ps (v .step .entries) (after ws ps ik ia ok oa (v .step .entries)) (ik ++ ok) (k + 1)) buffer from at d
-      next-done v = rw (x .told (v .step .entries) (v .step .sees) (inside-limit v)) (rw (keys-next k (ik ++ ok) (a .first) h) at (a .done v))
-
-      pub passing-inside : (from ≤ c .at) × (c .at + c .old ≤ length ms)
-      passing-inside = done-inside (next-done w) (w .room)
-
-      pub passing-room : at + (c .at - from) + length (entryWords (keyPlace k) (keyColour ws ps k) (c .count)) ≤ length buffer
-      passing-room = done-room (next-done w) (w .room)
-
-      pub passing-less : {k′ : ℕ} → k′ ≡ firstOf (keysFrom (k + 1) (ik ++ ok)) → length (keysFrom k′ (ik ++ ok)) < length (keysFrom k (ik ++ ok))
-      passing-less e = let s = ap length (next-same moves-of (k + 1) e) in let l = ap length (keys-next k (ik ++ ok) (a .first) h) in omega arith
-
-      pub passing-turn : {r : ℕ} (d₁ d₂ : List ℕ) → d₁ ≡ written d at (slice from (c .at) ms) → d₂ ≡ written d₁ (at + (c .at - from)) (entryWords (keyPlace k) (keyColour ws ps k) (c .count)) → length d₂ ≡ length buffer → r ≡ at + (c .at - from) + length (entryWords (keyPlace k) (keyColour ws ps k) (c .count)) → {k′ : ℕ} → k′ ≡ firstOf (keysFrom (k + 1) (ik ++ ok)) → Passing ws ps ik ia ok oa ms begins buffer k′ (c .at + c .old) r d₂
-      passing-turn d₁ d₂ f g l y e = record {
-        first = next-first moves-of (k + 1) e;
-        long = l;
-        done = λ v. rw (next-same moves-of (k + 1) e) (done-turn (next-done v) (v .room) d₁ d₂ f g l y);
-      }
-
-    module _ (h : noKey ≤ k) where
-      last-done : (v : Writable ws ps ik ia ok oa ms begins buffer) → Done ms (changesFrom ws ps (v .step .entries) (after ws ps ik ia ok oa (v .step .entries)) (ik ++ ok) 0) [] buffer from at d
-      last-done v = rw (keys-none k (ik ++ ok) (a .first) (all-low moves-of) h) at (a .done v)
-
-      pub passing-last : (from ≤ length ms) × (at + (length ms - from) ≤ length buffer)
-      passing-last = (end-inside (last-done w) (w .room), end-room (last-done w) (w .room))
-
-      pub passing-end : (d₁ : List ℕ) → d₁ ≡ written d at (slice from (length ms) ms) → IsWritten ws ps ik ia ok oa ms begins buffer (at + (length ms - from)) d₁
-      passing-end d₁ f = record { words = λ v. done-end (last-done v) (v .room) d₁ f .0; size = λ v. done-end (last-done v) (v .room) d₁ f .1 }
-
 -- ── 15, 16, or the new marking ──
 
-module _ {ws ps ik ia ok oa ms begins : List ℕ} {m : Measured} (x : IsMeasured ws ps ik ia ok oa ms begins m) (buffer : List ℕ) where
-  pub step-over : m .over ≡ true → IsStep ws ps ik ia ok oa ms begins buffer (FireRefused overCount 0) buffer
-  step-over t = record { fired = λ q. let w = not-true (every (within ws ps (after ws ps ik ia ok oa (q .entries))) (keysFrom 0 (ik ++ ok))) (sym (x .over (q .entries) (q .sees)) ∙ t) in rw w }
+module _ {ws ps ik ia ok oa ms begins : List ℕ} {r : Listed} {keys ats olds counts : List ℕ} (x : IsListed ws ps ik ia ok oa ms begins r keys ats olds counts) (buffer : List ℕ) where
+  pub step-over : r .over ≡ true → IsStep ws ps ik ia ok oa ms begins buffer (FireRefused overCount 0) buffer
+  step-over t = record { fired = λ q. let w = not-true (every (within ws ps (after ws ps ik ia ok oa (q .entries))) (keysFrom 0 (ik ++ ok))) (sym (x .measured .over (q .entries) (q .sees)) ∙ t) in rw w }
 
-  module _ (t : m .over ≡ false) where
+  module _ (t : r .over ≡ false) where
     step-limited : (q : Stepping ws ps ik ia ok oa ms begins) → every (within ws ps (after ws ps ik ia ok oa (q .entries))) (keysFrom 0 (ik ++ ok)) ≡ true
-    step-limited q = not-false _ (sym (x .over (q .entries) (q .sees)) ∙ t)
+    step-limited q = not-false _ (sym (x .measured .over (q .entries) (q .sees)) ∙ t)
 
     -- the length told from what was measured
-    sized : (q : Stepping ws ps ik ia ok oa ms begins) → length (patched ms 0 (changesFrom ws ps (q .entries) (after ws ps ik ia ok oa (q .entries)) (ik ++ ok) 0)) + m .old ≡ length ms + m .new
-    sized q = rw (x .old (q .entries) (q .sees) t, x .new (q .entries) (q .sees) t) (patched-size ms (changesFrom ws ps (q .entries) (after ws ps ik ia ok oa (q .entries)) (ik ++ ok) 0) (step-ordered q (step-limited q)))
+    sized : (q : Stepping ws ps ik ia ok oa ms begins) → length (patched ms 0 (changesFrom ws ps (q .entries) (after ws ps ik ia ok oa (q .entries)) (ik ++ ok) 0)) + r .old ≡ length ms + r .new
+    sized q = rw (x .measured .old (q .entries) (q .sees) t, x .measured .new (q .entries) (q .sees) t) (patched-size ms (changesFrom ws ps (q .entries) (after ws ps ik ia ok oa (q .entries)) (ik ++ ok) 0) (step-ordered q (step-limited q)))
 
-    pub step-more : Stepping ws ps ik ia ok oa ms begins → m .old ≤ length ms + m .new
+    pub step-more : Stepping ws ps ik ia ok oa ms begins → r .old ≤ length ms + r .new
     step-more q = let s = sized q in omega arith
 
-    step-size : (q : Stepping ws ps ik ia ok oa ms begins) → length (markingWords (q .net) (after ws ps ik ia ok oa (q .entries))) ≡ length ms + m .new - m .old
+    step-size : (q : Stepping ws ps ik ia ok oa ms begins) → length (markingWords (q .net) (after ws ps ik ia ok oa (q .entries))) ≡ length ms + r .new - r .old
     step-size q = let s = sized q in let l = ap length (step-words q (step-limited q)) in omega arith
 
-    pub step-long : length buffer < length ms + m .new - m .old → IsStep ws ps ik ia ok oa ms begins buffer (FireRefused overRoom 0) buffer
-    step-long h = record { fired = λ q. rw (step-limited q, step-size q, lt-leb (length ms + m .new - m .old) (length buffer) h) }
+    pub step-long : length buffer < length ms + r .new - r .old → IsStep ws ps ik ia ok oa ms begins buffer (FireRefused overRoom 0) buffer
+    step-long h = record { fired = λ q. rw (step-limited q, step-size q, lt-leb (length ms + r .new - r .old) (length buffer) h) }
 
-    module _ (h : length ms + m .new - m .old ≤ length buffer) where
-      pub step-words-over : mostWords < length ms + m .new - m .old → IsStep ws ps ik ia ok oa ms begins buffer (FireRefused overRoom 0) buffer
-      step-words-over g = record { fired = λ q. rw (step-limited q, step-size q, le-leb (length ms + m .new - m .old) (length buffer) h, lt-leb (length ms + m .new - m .old) mostWords g) }
+    module _ (h : length ms + r .new - r .old ≤ length buffer) where
+      pub step-words-over : mostWords < length ms + r .new - r .old → IsStep ws ps ik ia ok oa ms begins buffer (FireRefused overRoom 0) buffer
+      step-words-over g = record { fired = λ q. rw (step-limited q, step-size q, le-leb (length ms + r .new - r .old) (length buffer) h, lt-leb (length ms + r .new - r .old) mostWords g) }
 
-      pub writable : (q : Stepping ws ps ik ia ok oa ms begins) → Writable ws ps ik ia ok oa ms begins buffer
-      writable q = record { step = q; limited = step-limited q; room = let s = sized q in omega arith }
+      pub writable : Stepping ws ps ik ia ok oa ms begins → Writable ws ps ms keys ats olds counts (r .n) buffer
+      writable q =
+          let e = x .same (q .entries) (q .sees) t in
+          let s = sized q in
+          record { fits = q .moves .fits; tabled = x .tabled; ordered = rw e (step-ordered q (step-limited q)); room = rw e (omega arith) }
 
-      pub step-written : {r : ℕ} {rest : List ℕ} → length ms + m .new - m .old ≤ mostWords → IsWritten ws ps ik ia ok oa ms begins buffer r rest → IsStep ws ps ik ia ok oa ms begins buffer (Written r) rest
-      unfolding writable
-      step-written {r} {rest} g y = record {
+      pub step-written : {k : ℕ} {rest : List ℕ} → length ms + r .new - r .old ≤ mostWords → IsWritten ws ps ms keys ats olds counts (r .n) buffer k rest → IsStep ws ps ik ia ok oa ms begins buffer (Written k) rest
+      step-written {k} {rest} g y = record {
         fired = λ q.
-            let words : rest ≡ markingWords (q .net) (after ws ps ik ia ok oa (q .entries)) ++ drop (length (markingWords (q .net) (after ws ps ik ia ok oa (q .entries)))) buffer = y .words (writable q) ∙ ap (λ (l : List ℕ). l ++ drop (length l) buffer) (step-words q (step-limited q)) in
-            let size : r ≡ length (markingWords (q .net) (after ws ps ik ia ok oa (q .entries))) = y .size (writable q) ∙ ap length (step-words q (step-limited q)) in
-            rw (step-limited q, step-size q, le-leb (length ms + m .new - m .old) (length buffer) h, le-leb (length ms + m .new - m .old) mostWords g) (rw (words, size));
+            let e = ap (patched ms 0) (x .same (q .entries) (q .sees) t) ∙ step-words q (step-limited q) in
+            let words : rest ≡ markingWords (q .net) (after ws ps ik ia ok oa (q .entries)) ++ drop (length (markingWords (q .net) (after ws ps ik ia ok oa (q .entries)))) buffer = y .words ∙ ap (λ (l : List ℕ). l ++ drop (length l) buffer) e in
+            let size : k ≡ length (markingWords (q .net) (after ws ps ik ia ok oa (q .entries))) = y .size ∙ ap length e in
+            rw (step-limited q, step-size q, le-leb (length ms + r .new - r .old) (length buffer) h, le-leb (length ms + r .new - r .old) mostWords g) (rw (words, size));
       }

@@ -1,7 +1,8 @@
 -- What firing starts from, and what its answers say.
--- Rests on semantics/specs/Calls, marking/specs/Marked and net/specs/Places.
+-- Rests on semantics/specs/Calls, marking/specs/Marked, net/specs/Places, arcs/specs/Keys and occurrence/specs/Answers.
 use mathlib.Core.Path.{_≡_}
 use Prim.Native.Nat.{ℕ, _<_}
+use mathlib.Core.Bool.{true}
 use mathlib.Core.List.{List}
 use lib.IntN.{ℤ}
 use lib.ListN.{length}
@@ -20,6 +21,8 @@ use Rattle.net.specs.Skim.{outline}
 use Rattle.net.specs.Index.{outlined}
 use Rattle.net.specs.Places.{placesAt}
 use Rattle.marking.specs.Marked.{markingRead, Begins}
+use Rattle.arcs.specs.Keys.{IsGathered}
+use Rattle.occurrence.specs.Answers.{IsEnabledAt}
 
 -- a transition of a net, whose conjuncts and arcs stand at these positions, a marking and a binding, with what the code has of them
 pub record FireableAt (ws ps gs is os ms begins bs : List ℕ) : Type 0 where
@@ -55,3 +58,25 @@ pub record IsFiredAt (ws ps gs is os ms begins bs buffer : List ℕ) (r : Fired)
 
 abbrev pub IsFired : List ℕ → List ℕ → TransitionIndex → List ℕ → List ℕ → List ℕ → List ℕ → Fired → List ℕ → Type 0
 IsFired ws ps t ms begins bs buffer r after = IsFiredAt ws ps (outlined t .guard) (outlined t .inputs) (outlined t .outputs) ms begins bs buffer r after
+
+-- ── A binding that is known to be enabled ──
+
+-- the conjuncts are not looked at again, so they may stand anywhere
+pub record EnabledAt (ws ps is os ms begins bs : List ℕ) : Type 0 where
+  pub conjuncts : List ℕ
+  pub fireable : FireableAt ws ps conjuncts is os ms begins bs
+  pub enabled : IsEnabledAt ws ps conjuncts is ms begins bs true
+
+-- what fire answers, for all conjuncts that the binding is enabled by
+pub record IsFiredEnabled (ws ps is os ms begins bs buffer : List ℕ) (r : Fired) (after : List ℕ) : Type 0 where
+  pub fired : (gs : List ℕ) → IsEnabledAt ws ps gs is ms begins bs true → IsFiredAt ws ps gs is os ms begins bs buffer r after
+
+-- what it takes are the first n keys and amounts, and the input arcs are not looked at again
+pub record TakenAt (ws ps os ms begins bs keys amounts : List ℕ) (n : ℕ) : Type 0 where
+  pub inputs : List ℕ
+  pub enabled : EnabledAt ws ps inputs os ms begins bs
+  pub gathered : IsGathered ws ps bs inputs (record { some = true; n = n }) keys amounts
+
+-- the same for all input arcs that take them
+pub record IsFiredTaken (ws ps os ms begins bs keys amounts : List ℕ) (n : ℕ) (buffer : List ℕ) (r : Fired) (after : List ℕ) : Type 0 where
+  pub fired : (is : List ℕ) → IsGathered ws ps bs is (record { some = true; n = n }) keys amounts → IsFiredEnabled ws ps is os ms begins bs buffer r after

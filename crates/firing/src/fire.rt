@@ -13,10 +13,57 @@ ghost use Prim.Native.Nat.{_≤_};
 ghost use lib.ListN.{length};
 ghost use Rattle.semantics.specs.Calls.{fireCall};
 ghost use Rattle.net.specs.Places.{PlacesFit};
-ghost use Rattle.firing.specs.Fire.{FireableAt, IsFiredAt, Fireable, IsFired, fireEnd};
+ghost use Rattle.firing.specs.Fire.{FireableAt, IsFiredAt, EnabledAt, IsFiredEnabled, TakenAt, IsFiredTaken, Fireable, IsFired, fireEnd};
+
+// 14, 15 and 16 in that order, or the new marking is written. The first n keys and amounts are what an enabled binding takes.
+fn fire_taken(
+    net: &[u32],
+    places: &[usize],
+    outputs: &[usize],
+    in_keys: &[u64],
+    in_amounts: &[u32],
+    n: usize,
+    marking: &[u32],
+    begins: &[usize],
+    binding: &[u32],
+    next: &mut [u32],
+) -> Fired
+    requires { ⌜ PlacesFit (now net) (now places) ⌝ }
+    requires { ⌜ length (now begins) ≡ 65 ⌝ }
+    requires { ⌜ length (now outputs) ≤ 8 ⌝ }
+    requires { ⌜ (length (now «in_keys») ≡ 8) × (length (now «in_amounts») ≡ 8) ⌝ }
+    requires { ⌜ TakenAt (now net) (now places) (now outputs) (now marking) (now begins) (now binding) (now «in_keys») (now «in_amounts») n ⌝ }
+    ensures { λ r. ⌜ IsFiredTaken (now (net .entry)) (now (places .entry)) (now (outputs .entry)) (now (marking .entry)) (now (begins .entry)) (now (binding .entry)) (now («in_keys» .entry)) (now («in_amounts» .entry)) n (now (next .entry)) r (now (next .exit)) ⌝ }
+{
+    let mut out_keys = [0u64; 8];
+    let mut out_amounts = [0u32; 8];
+    let outs = gather(
+        net,
+        places,
+        binding,
+        outputs,
+        &mut out_keys[..],
+        &mut out_amounts[..],
+    );
+    if !outs.some {
+        return Fired::Refused(14, 0);
+    }
+    let m = outs.n;
+    fire_keys(
+        net,
+        places,
+        &in_keys[..n],
+        &in_amounts[..n],
+        &out_keys[..m],
+        &out_amounts[..m],
+        marking,
+        begins,
+        next,
+    )
+}
 
 // 13, 14, 15 and 16 in that order, or the new marking is written. The conjuncts and arcs of the transition stand at these positions.
-fn fire_arcs(
+pub fn fire_arcs(
     net: &[u32],
     places: &[usize],
     conjuncts: &[usize],
@@ -33,8 +80,8 @@ fn fire_arcs(
     requires { ⌜ FireableAt (now net) (now places) (now conjuncts) (now inputs) (now outputs) (now marking) (now begins) (now binding) ⌝ }
     ensures { λ r. ⌜ IsFiredAt (now (net .entry)) (now (places .entry)) (now (conjuncts .entry)) (now (inputs .entry)) (now (outputs .entry)) (now (marking .entry)) (now (begins .entry)) (now (binding .entry)) (now (next .entry)) r (now (next .exit)) ⌝ }
 {
-    let mut in_keys = [0u64; 8];
-    let mut in_amounts = [0u32; 8];
+    let mut keys = [0u64; 8];
+    let mut amounts = [0u32; 8];
     let ins = taken(
         net,
         places,
@@ -43,36 +90,63 @@ fn fire_arcs(
         marking,
         begins,
         binding,
-        &mut in_keys[..],
-        &mut in_amounts[..],
+        &mut keys[..],
+        &mut amounts[..],
     );
     if !ins.some {
         return Fired::Refused(13, 0);
     }
-    let mut out_keys = [0u64; 8];
-    let mut out_amounts = [0u32; 8];
-    let outs = gather(
+    fire_taken(
+        net,
+        places,
+        outputs,
+        &keys[..],
+        &amounts[..],
+        ins.n,
+        marking,
+        begins,
+        binding,
+        next,
+    )
+}
+
+// The same of a binding that is known to be enabled: guard and cover are not tested again.
+pub fn fire_enabled(
+    net: &[u32],
+    places: &[usize],
+    inputs: &[usize],
+    outputs: &[usize],
+    marking: &[u32],
+    begins: &[usize],
+    binding: &[u32],
+    next: &mut [u32],
+) -> Fired
+    requires { ⌜ PlacesFit (now net) (now places) ⌝ }
+    requires { ⌜ length (now begins) ≡ 65 ⌝ }
+    requires { ⌜ (length (now inputs) ≤ 8) × (length (now outputs) ≤ 8) ⌝ }
+    requires { ⌜ EnabledAt (now net) (now places) (now inputs) (now outputs) (now marking) (now begins) (now binding) ⌝ }
+    ensures { λ r. ⌜ IsFiredEnabled (now (net .entry)) (now (places .entry)) (now (inputs .entry)) (now (outputs .entry)) (now (marking .entry)) (now (begins .entry)) (now (binding .entry)) (now (next .entry)) r (now (next .exit)) ⌝ }
+{
+    let mut keys = [0u64; 8];
+    let mut amounts = [0u32; 8];
+    let ins = gather(
         net,
         places,
         binding,
-        outputs,
-        &mut out_keys[..],
-        &mut out_amounts[..],
+        inputs,
+        &mut keys[..],
+        &mut amounts[..],
     );
-    if !outs.some {
-        return Fired::Refused(14, 0);
-    }
-    let n = ins.n;
-    let m = outs.n;
-    fire_keys(
+    fire_taken(
         net,
         places,
-        &in_keys[..n],
-        &in_amounts[..n],
-        &out_keys[..m],
-        &out_amounts[..m],
+        outputs,
+        &keys[..],
+        &amounts[..],
+        ins.n,
         marking,
         begins,
+        binding,
         next,
     )
 }
