@@ -12,6 +12,7 @@ use lib.ListN.{length, getD}
 use Rattle.semantics.specs.Lists.{Every}
 use Rattle.semantics.specs.Order.{before, Rising}
 use Rattle.semantics.proofs.Tests.{either, not-both}
+use Rattle.semantics.proofs.Members.{every-number}
 use Rattle.semantics.proofs.Order.{before-trans}
 use Rattle.marking.specs.Marked.{valuesAt, coloursAt, rankOf, IsRank}
 
@@ -27,17 +28,12 @@ rank-none x (y ∷ ys) c e f = by (rank-none x ys c (e .1) f) (either (before y 
     by h (inl t) = absurd (not-both (before x c) (before-trans x y c (e .0) t) f)
     by h (inr t) = rw t (omega arith)
 
-Every-getD : (P : List ℤ → Type 0) (xs : List (List ℤ)) (i : ℕ) → Every P xs → i < length xs → P (getD xs i [])
-Every-getD P [] i e h = absurd (omega arith)
-Every-getD P (x ∷ xs) zero e h = e .0
-Every-getD P (x ∷ xs) (suc i) e h = Every-getD P xs i (e .1) (omega arith)
-
 pub rank-above : (cs : List (List ℤ)) (c : List ℤ) (i : ℕ) → Rising (λ x. x) cs → i < length cs → before (getD cs i []) c ≡ true → i < rankOf cs c
 unfolding rankOf
 rank-above [] c i r h t = absurd (omega arith)
 rank-above (x ∷ xs) c zero r h t = rw t (omega arith)
 rank-above (x ∷ xs) c (suc i) r h t =
-    let b = before-trans x (getD xs i []) c (Every-getD (λ (y : List ℤ). before x y ≡ true) xs i (r .0) (omega arith)) t in
+    let b = before-trans x (getD xs i []) c (every-number (λ (y : List ℤ). before x y ≡ true) xs i [] (r .0) (omega arith)) t in
     let k = rank-above xs c i (r .1) (omega arith) t in
     rw b (omega arith)
 

@@ -15,6 +15,7 @@ use Rattle.semantics.specs.Reading.{read, several, wordAt, word}
 use Rattle.semantics.specs.Net.{Place, Transition, Net, rangesAt}
 use Rattle.semantics.specs.ReadNet.{readRange, readPlace, readArc, readConjunct, readElement, transitionWord, readTransition, readNet}
 use Rattle.semantics.proofs.Tests.{false-true, and-right}
+use Rattle.semantics.proofs.Members.{every-number}
 use Rattle.semantics.proofs.Readers.{Gives, gives, refusal, given, then-gives, demand-gives, cond-gives, as-read}
 use Rattle.semantics.proofs.Accepted.{read-sound}
 use Rattle.word.specs.Fields.{rangeWord}
@@ -123,13 +124,8 @@ ranges-at ws (p ∷ ps) (suc q) h = ranges-at ws ps q (omega arith)
 pub width-at : (ws ps : List ℕ) (q : ℕ) → q < length ps → length (rangesAt (placesAt ws ps) q) ≡ widthAt ws (getD ps q 0)
 width-at ws ps q h = ap length (ranges-at ws ps q h) ∙ ranges-length ws (widthAt ws (getD ps q 0)) (getD ps q 0 + 1)
 
-every-at : {A : Type 0} (P : A → Type 0) (xs : List A) (i : ℕ) (d : A) → Every P xs → i < length xs → P (getD xs i d)
-every-at P [] i d e h = absurd (omega arith)
-every-at P (x ∷ xs) zero d e h = e .0
-every-at P (x ∷ xs) (suc i) d e h = every-at P xs i d (e .1) (omega arith)
-
 pub fits-at : {ws ps : List ℕ} → PlacesFit ws ps → (q : ℕ) → q < length ps → PlaceFits ws (getD ps q 0)
-fits-at {ws} {ps} f q h = every-at (PlaceFits ws) ps q 0 (f .each) h
+fits-at {ws} {ps} f q h = every-number (PlaceFits ws) ps q 0 (f .each) h
 
 -- ── The variables of a transition ──
 

@@ -1,14 +1,13 @@
 -- The rules of a situation: net, then transition, then marking. Each is told by its index; what the indexes have is what semantics reads,
 -- since each structure stands at its position.
-use mathlib.Core.Path.{_≡_, refl, sym, ap, _∙_, subst}
+use mathlib.Core.Path.{_≡_, sym, ap, _∙_}
 use Prim.Native.Nat.{ℕ, zero, suc, min, _≤_, _<_}
 use mathlib.Core.List.{List, [], _∷_, map}
-use mathlib.Core.Option.{none, some}
+use mathlib.Core.Option.{some}
 use native.Mathlib.Omega.{arith}
 use lib.ListN.{length, getD, getElem?, take, length-map, length-take}
 use lib.Seq.{getD-take}
 use Rattle.semantics.specs.Refusal.{noTransition}
-use Rattle.semantics.specs.Lists.{Every}
 use Rattle.semantics.specs.Reading.{Reading, read, refused}
 use Rattle.semantics.specs.Net.{Transition, Net}
 use Rattle.semantics.specs.ReadNet.{readNet, readTransition}
@@ -17,7 +16,7 @@ use Rattle.semantics.specs.Marking.{Entry, readMarking}
 use Rattle.semantics.specs.Calls.{Situation as Situated, situation}
 use Rattle.semantics.proofs.Accepted.{accepted-read}
 use Rattle.semantics.proofs.Tests.{false-true}
-use Rattle.semantics.proofs.Members.{none-some, length-at}
+use Rattle.semantics.proofs.Members.{none-some, length-at, past-elem, every-elem}
 use Rattle.expression.specs.declared.read.Skipped.{Skipped}
 use Rattle.expression.specs.declared.read.Skipped.the-variants.{Next, Refused}
 use Rattle.expression.specs.Skip.{forget, skipped}
@@ -39,20 +38,10 @@ use Rattle.occurrence.specs.Situation.{Prepared, IsSituation}
 
 -- ── A transition by its number ──
 
-every-elem : {A : Type 0} (P : A → Type 0) (l : List A) (i : ℕ) (a : A) → Every P l → getElem? l i ≡ some a → P a
-every-elem P [] i a e h = none-some h
-every-elem P (x ∷ xs) zero a e h = let q : x ≡ a = cc in subst P q (e .0)
-every-elem P (x ∷ xs) (suc i) a e h = every-elem P xs i a (e .1) h
-
 position-elem : (ts : List Transition) (i : ℕ) (t : Transition) → getElem? ts i ≡ some t → getD (map (λ (t : Transition). t .position) ts) i 0 ≡ t .position
 position-elem [] i t h = none-some h
 position-elem (x ∷ xs) zero t h = let q : x ≡ t = cc in ap (λ (t : Transition). t .position) q
 position-elem (x ∷ xs) (suc i) t h = position-elem xs i t h
-
-past-elem : {A : Type 0} (l : List A) (i : ℕ) → length l ≤ i → getElem? l i ≡ none
-past-elem [] i h = refl
-past-elem (x ∷ xs) zero h = absurd (omega arith)
-past-elem (x ∷ xs) (suc i) h = past-elem xs i (omega arith)
 
 next-refused : {X : Type 0} {next n p : ℕ} → Next next ≡ Refused n p → X
 next-refused e = false-true (cc)

@@ -33,7 +33,7 @@ use Rattle.text.proofs.Putting.{put-none}
 use Rattle.printed.specs.declared.part.Part.{Part}
 use Rattle.printed.specs.Texts.{menuTexts, markingTexts, netTexts, texts}
 use Rattle.printed.specs.Part.{IsPart, Accepts, IsNetPart, Ready, IsMenuText}
-use Rattle.printed.proofs.Cut.{front-alone, front-refused, headed}
+use Rattle.semantics.proofs.Cut.{front-alone, front-refused, headed}
 
 -- ── One part ──
 

@@ -21,5 +21,6 @@ pub mod Entries
 pub mod Spans
 pub mod ReadEntries
 pub mod Prefix
+pub mod Cut
 pub mod Markings
 pub mod Reach

@@ -1,6 +1,6 @@
 -- `printed::part::net_part` meets its contract: each return is a rule of `Parts`.
 use borrow.Author.Needs.{needs}
-use Rattle.printed.proofs.Cut.{headed}
+use Rattle.semantics.proofs.Cut.{headed}
 use Rattle.printed.proofs.Parts.{net-past, net-refused, net-ready, net-menu}
 use Rattle.printed.proofs.part.net_part.Statement.{statement}
 use Rattle.printed.proofs.part.net_part.Tie as tie

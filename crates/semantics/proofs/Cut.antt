@@ -1,6 +1,6 @@
 -- A net at the front of words is the net of the words up to its end, and no refusal of words has the number 0.
 -- The idea: a reading that ends by some position reads the same from the words cut there, since no reader goes back. One law for each way of
--- making a reader, so that the law of a structure is written as its reader is, line by line. Rests on semantics/proofs/{Accepted, Spans}.
+-- making a reader, so that the law of a structure is written as its reader is, line by line. Rests on Accepted and Spans.
 use mathlib.Core.Path.{_≡_, refl, sym, ap, _∙_}
 use mathlib.Core.Bool.{Bool, true, false, cond, _&&_}
 use mathlib.Core.List.{List, [], _∷_}
