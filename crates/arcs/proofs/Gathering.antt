@@ -15,6 +15,7 @@ use Rattle.semantics.specs.Lists.{Every, every, select}
 use Rattle.semantics.specs.Expression.{given}
 use Rattle.semantics.specs.Enabling.{Flow}
 use Rattle.semantics.proofs.Tests.{or-right}
+use Rattle.semantics.proofs.Members.{every-snoc}
 use Rattle.arcs.specs.declared.flow.Moved.{Moved}
 use Rattle.arcs.specs.declared.flow.Moved.the-variants.{Tokens, Idle, Outside, Nothing}
 use Rattle.arcs.specs.Flow.{flowAt, flowsAt}
@@ -50,10 +51,6 @@ module _ (ws ps : List ℕ) where
   keys-behind [] (b ∷ bs) k a e = absurd (omega arith)
   keys-behind (j ∷ ks) [] k a e = absurd (omega arith)
   keys-behind (j ∷ ks) (b ∷ bs) k a e = ap (λ (l : List Flow). keyFlow ws ps j b ∷ l) (keys-behind ks bs k a (omega arith))
-
-every-behind : {A : Type 0} (P : A → Type 0) (xs : List A) (x : A) → Every P xs → P x → Every P (xs ++ (x ∷ []))
-every-behind P [] x e p = (p, tt)
-every-behind P (y ∷ ys) x e p = (e .0, every-behind P ys x (e .1) p)
 
 -- ── The loop ──
 
@@ -130,7 +127,7 @@ module _ {ws ps bs ats : List ℕ} {i n : ℕ} {keys amounts : List ℕ} (a : Ga
           few = omega arith;
           keys-full = length-set keys n k ∙ f;
           amounts-full = length-set amounts n m ∙ g;
-          fit = rw p (every-behind (KeyFits ws ps) (take n keys) k (a .fit) (s .1));
+          fit = rw p (every-snoc (KeyFits ws ps) (take n keys) k (a .fit) (s .1));
           same =
               rw (p, q, keys-behind ws ps (take n keys) (take n amounts) k m w) (front-front (keyFlows ws ps (take n keys) (take n amounts)) (keyFlow ws ps k m ∷ []) o
               ∙ ahead (front (keyFlow ws ps k m ∷ []) o) (rw (s .0) (first-moves ws ps (flowsAt ws ps bs (drop (i + 1) ats)) (keyFlow ws ps k m) (or-right (eqb m 0) _ (s .1 .ranged)) (s .2))));

@@ -2,7 +2,7 @@
 -- range, and as long as all are in range the code is theirs.
 use mathlib.Core.Path.{_≡_, refl, sym, ap, _∙_, subst}
 use Prim.Native.Nat.{ℕ, zero, suc, _+_, _-_, _*_, _%_, _≤_, _<_, _^_}
-use mathlib.Core.Bool.{Bool, true, false, not, _&&_}
+use mathlib.Core.Bool.{Bool, true, false, not, _&&_, and-assoc}
 use mathlib.Core.List.{List, [], _∷_, _++_, append-nil}
 use mathlib.Core.Option.{Option, none, some}
 use native.Mathlib.Nat.{pow-suc}
@@ -66,11 +66,7 @@ ranges-behind ws zero at (v ∷ vs) z l = absurd (omega arith)
 ranges-behind ws (suc n) at [] z l = absurd (omega arith)
 ranges-behind ws (suc n) at (v ∷ vs) z l =
     let e : at + suc n ≡ at + 1 + n = omega arith in
-    rw (e, ranges-behind ws n (at + 1) vs z (omega arith)) (both (within (rangeWord (getD ws at 0)) v) (inRanges (rangesFrom ws n (at + 1)) vs) (within (rangeWord (getD ws (at + 1 + n) 0)) z))
-  where
-    both : (s t u : Bool) → (s && (t && u)) ≡ ((s && t) && u)
-    both true t u = refl
-    both false t u = refl
+    rw (e, ranges-behind ws n (at + 1) vs z (omega arith)) (sym (and-assoc (within (rangeWord (getD ws at 0)) v) (inRanges (rangesFrom ws n (at + 1)) vs) (within (rangeWord (getD ws (at + 1 + n) 0)) z)))
 
 -- the i first of n components
 pub record Packing (ws bs : List ℕ) (ranges n at i next : ℕ) (c : Coded) : Type 0 where

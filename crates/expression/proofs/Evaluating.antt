@@ -8,13 +8,13 @@ use borrow.Author.Needs.{needs}
 use lib.IntN.{ℤ}
 use lib.ListN.{length, getD}
 use Rattle.semantics.specs.Expression.{Operator, Expression, Environment, binary, load, operate, loadOf, houseTable, value}
+use Rattle.semantics.proofs.Members.{elem-number}
 use Rattle.semantics.specs.Reading.{Reading, read, refused, then, Reader}
 use Rattle.semantics.specs.ReadNet.{binaryHead, expressionIn}
 use Rattle.semantics.specs.ReadNet.{operands as operandsOf}
 use Rattle.word.specs.declared.number.Number.{Number}
 use Rattle.word.specs.declared.number.Number.the-variants.{Some}
 use Rattle.word.specs.Number.{number, operatorOf}
-use Rattle.word.proofs.Loads.{at-getD}
 use Rattle.expression.specs.declared.head.Head.{Head}
 use Rattle.expression.specs.declared.head.Head.the-variants.{Constant, Variable, Binary, Load, Refused}
 use Rattle.expression.specs.declared.evaluate.Outcome.{Outcome}
@@ -52,7 +52,7 @@ module _ (env : Environment) where
 -- a variable that there is has the value of its word
 lent-at : (bs : List ℕ) (n : ℕ) → n < length bs → lent bs n ≡ valueOf (getD bs n 0)
 unfolding bind
-lent-at bs n h = rw (at-getD bs n h)
+lent-at bs n h = rw (elem-number bs n 0 h)
 
 -- ── The rules ──
 

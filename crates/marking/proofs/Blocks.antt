@@ -15,7 +15,7 @@ use Rattle.semantics.specs.Lists.{Every, select}
 use Rattle.semantics.specs.Order.{sameInteger, sameTuple, before, Rising}
 use Rattle.semantics.specs.Marking.{Entry, key, countsOf}
 use Rattle.semantics.proofs.Tests.{either, Every-at, Every-of}
-use Rattle.semantics.proofs.Entries.{entryKey}
+use Rattle.semantics.proofs.Entries.{entryKey, entry-path}
 use Rattle.marking.proofs.Rising.{before-nothing, place-after, key-rises}
 use Rattle.marking.specs.Marked.{valuesAt, blockAt, rankOf, positionOf, beginOf}
 
@@ -143,9 +143,6 @@ block-none p (e ∷ es) h =
     let l = h .0 in
     let d : e .place ≡ p → ⊥ = λ q. omega arith in
     rw (ne-eqb (e .place) p d) (block-none p es (h .1))
-
-entry-path : (d e : Entry) → d .place ≡ e .place → d .count ≡ e .count → d .colour ≡ e .colour → d ≡ e
-entry-path d e p q r = λ i. record { place = p i; count = q i; colour = r i }
 
 pub block-stands : (ws : List ℕ) (p n : ℕ) (es : List Entry) (at : ℕ) → Rising entryKey es → Every (Wide p n) es → Stand ws at es → blockAt ws p n (length (block p es)) (at + beginOf es p) ≡ block p es
 unfolding block select blockAt positionOf

@@ -1,5 +1,5 @@
 -- The rules of reading a binding: its values, and nothing after them. A binding that is accepted is its values' words.
-use mathlib.Core.Path.{_≡_, refl, sym, ap, _∙_, subst}
+use mathlib.Core.Path.{_≡_, sym, ap, _∙_, subst}
 use Prim.Native.Nat.{ℕ, zero, suc, _+_, _≤_, _<_}
 use mathlib.Core.Bool.{true}
 use mathlib.Core.List.{List, [], _∷_, _++_, map, append-nil}
@@ -70,14 +70,6 @@ binding-read rs ws b next e =
     let n : drop mid ws ≡ [] = drop-of-length-le ws h in
     let w : ws ≡ map valueWord c = v .0 .split ∙ ap (λ (l : List ℕ). map valueWord c ++ l) n ∙ append-nil (map valueWord c) in
     record { words = subst (λ (b : List ℤ). ws ≡ map valueWord b) (s .0) w; ranged = subst (λ (b : List ℤ). inRanges rs b ≡ true) (s .0) (v .1) }
-
--- as many values as ranges
-pub ranged-length : (rs : List Range) (b : List ℤ) → inRanges rs b ≡ true → length b ≡ length rs
-unfolding inRanges
-ranged-length [] [] e = refl
-ranged-length [] (z ∷ zs) e = false-true e
-ranged-length (r ∷ rs) [] e = false-true e
-ranged-length (r ∷ rs) (z ∷ zs) e = ap suc (ranged-length rs zs (and-right (within r z) (inRanges rs zs) e))
 
 -- values in the ranges of RANGE words are values
 pub ranged-small : (nws : List ℕ) (n at : ℕ) (b : List ℤ) → inRanges (rangesFrom nws n at) b ≡ true → Every (λ z. mag z < 8192) b

@@ -3,7 +3,7 @@
 use mathlib.Core.Path.{_≡_, refl, sym, ap, _∙_, subst}
 use mathlib.Core.Logic.{_⊎_, inl, inr}
 use Prim.Native.Nat.{ℕ, zero, suc, _+_, _*_, _-_, _/_, _%_, _≤_, _<_, _^_}
-use mathlib.Core.Bool.{Bool, true, false, _&&_, _||_}
+use mathlib.Core.Bool.{Bool, true, false, _&&_, _||_, and-assoc}
 use mathlib.Core.List.{List, [], _∷_, _++_}
 use borrow.Author.Tests.{ltb-true, ltb-false, eqb-true, eqb-false, lt-ltb, le-ltb, eq-eqb, ne-eqb}
 use native.Mathlib.Nat.{pow-suc, pow-le-pow-right}
@@ -78,10 +78,6 @@ and-last : (s : Bool) → (s && true) ≡ s
 and-last true = refl
 and-last false = refl
 
-and-more : (s t u : Bool) → (s && (t && u)) ≡ ((s && t) && u)
-and-more true t u = refl
-and-more false t u = refl
-
 before-behind : (xs ys : List ℤ) (x y : ℤ) → length xs ≡ length ys → before (xs ++ (x ∷ [])) (ys ++ (y ∷ [])) ≡ (before xs ys || (sameTuple xs ys && ltZ x y))
 unfolding before sameTuple
 before-behind [] [] x y e = or-last (ltZ x y) (sameInteger x y)
@@ -94,7 +90,7 @@ unfolding sameTuple
 same-behind [] [] x y e = and-last (sameInteger x y)
 same-behind [] (b ∷ ys) x y e = absurd (omega arith)
 same-behind (a ∷ xs) [] x y e = absurd (omega arith)
-same-behind (a ∷ xs) (b ∷ ys) x y e = rw (same-behind xs ys x y (omega arith)) (and-more (sameInteger a b) (sameTuple xs ys) (sameInteger x y))
+same-behind (a ∷ xs) (b ∷ ys) x y e = rw (same-behind xs ys x y (omega arith)) (sym (and-assoc (sameInteger a b) (sameTuple xs ys) (sameInteger x y)))
 
 -- ── Codes ──
 

@@ -21,6 +21,7 @@ use Rattle.semantics.specs.Net.{Place, rangesAt}
 use Rattle.semantics.specs.Marking.{Entry, key, readEntry, rising, readEntries}
 use Rattle.semantics.proofs.Spans.{Span, then-read, read-same, refused-read, word-read, drop-first}
 use Rattle.semantics.proofs.Tests.{false-true, either}
+use Rattle.semantics.proofs.Members.{every-snoc}
 use Rattle.expression.specs.declared.read.Skipped.the-variants.{Next, Refused}
 use Rattle.expression.specs.Skip.{forget}
 use Rattle.net.specs.Skim.{changed}
@@ -116,10 +117,6 @@ begin-size : (es : List Entry) (place p : ℕ) → Every (λ (e : Entry). e .pla
 unfolding positionOf sizeOf
 begin-size [] place p l h = refl
 begin-size (e ∷ es) place p l h = let i = l .0 in rw (place-before e p (omega arith), begin-size es place p (l .1) h)
-
-Every-snoc : {A : Type 0} (P : A → Type 0) (xs : List A) (x : A) → Every P xs → P x → Every P (xs ++ (x ∷ []))
-Every-snoc P [] x e h = (h, tt)
-Every-snoc P (y ∷ xs) x e h = (e .0, Every-snoc P xs x (e .1) h)
 
 Every-weaken : {A : Type 0} (P Q : A → Type 0) (xs : List A) → ((x : A) → P x → Q x) → Every P xs → Every Q xs
 Every-weaken P Q [] f e = tt
@@ -318,7 +315,7 @@ module _ {ps : List Place} {ws begins : List ℕ} {last place at : ℕ} (a : SoF
                   size = omega (arith, size-snoc (a .entries) e);
                   first = λ z. absurd (omega arith);
                   later = λ f. rw (stands .colour);
-                  low = Every-snoc (λ (d : Entry). d .place ≤ e .place) (a .entries) e (Every-weaken (λ (d : Entry). d .place ≤ place) (λ (d : Entry). d .place ≤ e .place) (a .entries) (λ d h. let g = no-lesser in omega arith) (a .low)) (omega arith);
+                  low = every-snoc (λ (d : Entry). d .place ≤ e .place) (a .entries) e (Every-weaken (λ (d : Entry). d .place ≤ place) (λ (d : Entry). d .place ≤ e .place) (a .entries) (λ d h. let g = no-lesser in omega arith) (a .low)) (omega arith);
                   begun = λ p i. begun p i (either (leb p place));
                   few = few;
                   long = omega arith;

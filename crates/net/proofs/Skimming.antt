@@ -11,16 +11,12 @@ use Rattle.semantics.specs.ReadNet.{readExpression, readRange, readPlace, readA
 use Rattle.semantics.proofs.Tests.{false-true}
 use Rattle.semantics.proofs.Readers.{Gives, gives, given, then-gives, as-read}
 use Rattle.expression.specs.Skip.{forget}
+use Rattle.expression.proofs.Passing.{forget-then}
 use Rattle.kinds.specs.Taken.{fitsKind}
 use Rattle.net.specs.Skim.{changed, starts, skimExpression, skimArc, skimConjunct, skimOne, outline, skimTransition, width, skimPlace, skimPlaces, NetOutline, netOutline, skimNet}
 use Rattle.net.proofs.Loops.{forget-changed}
 
 -- ── Steps ──
-
--- what is read is forgotten; what follows does not look at it
-pub forget-then : {A B : Type 0} (r : Reading A) (k : A → ℕ → Reading B) (k′ : ℕ → Reading (Unit {0})) → ((a : A) (n : ℕ) → forget (k a n) ≡ k′ n) → forget (then r k) ≡ then (forget r) (λ u n. k′ n)
-forget-then (read a next) k k′ f = f a next
-forget-then (refused n p) k k′ f = refl
 
 -- what is read is kept
 pub forget-after : {A B : Type 0} (r : Reading A) (k : A → ℕ → Reading B) → forget (then r k) ≡ then r (λ a n. forget (k a n))

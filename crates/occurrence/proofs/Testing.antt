@@ -21,7 +21,8 @@ use Rattle.net.specs.Index.{outlined}
 use Rattle.net.specs.Places.{rangesFrom}
 use Rattle.net.proofs.Placed.{variables-placed, variables-fit}
 use Rattle.marking.specs.Marked.{bindingRead}
-use Rattle.marking.proofs.Bound.{IsBinding, binding-read, ranged-length, ranged-small}
+use Rattle.semantics.proofs.Partial.{range-length}
+use Rattle.marking.proofs.Bound.{IsBinding, binding-read, ranged-small}
 use Rattle.occurrence.specs.declared.situation.Situation.{Situation}
 use Rattle.occurrence.specs.Answers.{IsEnabledAt}
 use Rattle.occurrence.specs.Situation.{Prepared, IsSituation}
@@ -64,7 +65,7 @@ module _ {ws : List ℕ} {t : ℕ} {ms : List ℕ} {s : Situation} (p : Prepared
       is-binding = binding-read (p .transition .variables) bs (bound-read .0) next (bound-read .1)
 
       pub bound-length : length bs ≡ length (p .transition .variables)
-      bound-length = ap length (is-binding .words) ∙ length-map (bound-read .0) valueWord ∙ ranged-length (p .transition .variables) (bound-read .0) (is-binding .ranged)
+      bound-length = ap length (is-binding .words) ∙ length-map (bound-read .0) valueWord ∙ range-length (p .transition .variables) (bound-read .0) (is-binding .ranged)
 
       -- the words of the binding say what the binding says
       pub bound-lent : lent bs ≡ bound (bound-read .0)

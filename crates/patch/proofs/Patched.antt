@@ -23,7 +23,7 @@ use Rattle.semantics.specs.Marking.{Entry, key, readEntries, Counts, countsOf, 
 use Rattle.semantics.proofs.Tests.{either, and-left, and-right, cond-false, tuple-same, Every-at, Every-of}
 use Rattle.semantics.proofs.Order.{before-trans, before-irrefl, before-total}
 use Rattle.semantics.proofs.Spans.{numbered-read, drop-after}
-use Rattle.semantics.proofs.Entries.{entryKey, wordsOfEntry, wordsOf, Good, counts-some, counts-member, entriesOf-words, entries-again}
+use Rattle.semantics.proofs.Entries.{entryKey, entry-path, wordsOfEntry, wordsOf, Good, counts-some, counts-member, entriesOf-words, entries-again}
 use Rattle.semantics.proofs.ReadEntries.{Accepted, entries-read}
 use Rattle.marking.specs.Marked.{markingRead, positionOf}
 use Rattle.patch.specs.Patch.{Change, changeKey, patched, oldLength, newLength, Told, Untouched, Changing, Apart, InOrder}
@@ -195,9 +195,6 @@ entryOf-in p c (suc n) e k =
     let q = List·Memᴰ·eq-of-singleton k in
     let z = ap (λ (d : Entry). d .count) q in
     (sym (ap entryKey q), z, omega arith)
-
-entry-path : (d e : Entry) → d .place ≡ e .place → d .count ≡ e .count → d .colour ≡ e .colour → d ≡ e
-entry-path d e p q r = λ i. record { place = p i; count = q i; colour = r i }
 
 in-entryOf : (p : ℕ) (c : List ℤ) (n : ℕ) (e : Entry) → key p c ≡ entryKey e → e .count ≡ n → 1 ≤ e .count → List·Memᴰ e (entryOf p c n)
 unfolding entryOf

@@ -4,7 +4,7 @@
 use mathlib.Core.Path.{_≡_, refl, sym, ap, _∙_, subst}
 use mathlib.Core.Logic.{_⊎_, inl, inr}
 use Prim.Native.Nat.{ℕ, suc, _+_, _-_, _≤_, _<_}
-use mathlib.Core.Bool.{Bool, true, false, cond, not, _||_}
+use mathlib.Core.Bool.{Bool, true, false, cond, _||_}
 use mathlib.Core.List.{List, [], _∷_, _++_}
 use native.Mathlib.Omega.{arith}
 use borrow.Author.Needs.{needs}
@@ -31,6 +31,7 @@ use Rattle.net.proofs.Structures.{next-fits}
 use Rattle.plans.specs.declared.bind.Bound.{Bound}
 use Rattle.plans.specs.Fitness.{after, unboundOf, loneAt, loneFrom, matchAt}
 use Rattle.plans.specs.Plan.{marked, nonEmpty, IsBound}
+use Rattle.plans.proofs.Fitness.{unless}
 
 -- ── A lone variable ──
 
@@ -74,12 +75,8 @@ pub data Lone (ws : List ℕ) (v at : ℕ) : Type 0 where
 pub lone-here : (ws : List ℕ) (v at : ℕ) → Lone ws v at
 lone-here ws v at = by (word ws 8 (fitsKind 8) at) refl
   where
-    flip : (m : ℕ) (t : Bool) → cond (not t) (m ∷ []) [] ≡ cond t [] (m ∷ [])
-    flip m true = refl
-    flip m false = refl
-
     tested : (m next : ℕ) → word ws 8 (fitsKind 8) at ≡ read m next → (ltb m v ≡ true) ⊎ (ltb m v ≡ false) → Lone ws v at
-    tested m next e (inl h) = somebody m (λ isBound. rw (e, h) (flip m (isBound m)))
+    tested m next e (inl h) = somebody m (λ isBound. rw (e, h) (unless m (isBound m)))
     tested m next e (inr h) = nobody (λ isBound. rw (e, h))
 
     by : (x : Reading ℕ) → word ws 8 (fitsKind 8) at ≡ x → Lone ws v at

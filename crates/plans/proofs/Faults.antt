@@ -8,13 +8,14 @@ use mathlib.Core.Option.{Option, none, some}
 use native.Mathlib.Numerals.{add-one}
 use native.Mathlib.Omega.{arith}
 use borrow.Author.Needs.{needs}
-use lib.ListN.{length, getD, getElem?, drop, take, set, replicate, drop-of-length-le}
+use lib.ListN.{length, getD, drop, take, set, replicate, drop-of-length-le}
 use lib.Seq.{drop-cons}
 use Rattle.semantics.specs.Plan.{member, everyBelow, fitOr}
 use Rattle.semantics.specs.Net as net
 use Rattle.semantics.specs.Reading.{read, refused}
 use Rattle.semantics.specs.ReadNet.{readElement, sortOf}
 use Rattle.semantics.proofs.Tests.{false-true}
+use Rattle.semantics.proofs.Members.{past-elem, elem-number}
 use Rattle.expression.specs.declared.read.Skipped.{Skipped}
 use Rattle.expression.specs.declared.read.Skipped.the-variants.{Next, Refused}
 use Rattle.kinds.specs.Taken.{fitsKind, taken, IsTaken}
@@ -79,33 +80,22 @@ module _ {v : ℕ} {marks : List Bool} {n : ℕ} (a : Bounded v marks n) where
 
 -- ── What an element binds ──
 
--- a member of a list, by its number
-elem-at : (l : List ℕ) (k : ℕ) → k < length l → getElem? l k ≡ some (getD l k 0)
-elem-at [] k h = absurd (omega arith)
-elem-at (x ∷ xs) zero h = refl
-elem-at (x ∷ xs) (suc k) h = elem-at xs k (omega arith)
-
-elem-past : (l : List ℕ) (k : ℕ) → length l ≤ k → getElem? l k ≡ none
-elem-past [] k h = refl
-elem-past (x ∷ xs) zero h = absurd (omega arith)
-elem-past (x ∷ xs) (suc k) h = elem-past xs k (omega arith)
-
 module _ (ws widths : List ℕ) (v : ℕ) (inputs guard : List ℕ) (marks : List Bool) {s : Sort} where
   pub match-past : {k : ℕ} → s ≡ Match k → length inputs ≤ k → IsBound (fresh marks) (bindsAt ws widths (planParts v inputs guard) (marked marks) (sorted s)) (fresh marks)
   unfolding bindsAt
-  match-past {k} e h = rw (e, elem-past inputs k h) (bound-none (fresh marks))
+  match-past {k} e h = rw (e, past-elem inputs k h) (bound-none (fresh marks))
 
   pub match-there : {k : ℕ} {r : Bound} → s ≡ Match k → k < length inputs → IsBound (fresh marks) (matchAt ws widths v (marked marks) (getD inputs k 0)) r → IsBound (fresh marks) (bindsAt ws widths (planParts v inputs guard) (marked marks) (sorted s)) r
   unfolding bindsAt
-  match-there {k} e h x = rw (e, elem-at inputs k h) x
+  match-there {k} e h x = rw (e, elem-number inputs k 0 h) x
 
   pub solve-past : {k : ℕ} → s ≡ Solve k → length guard ≤ k → IsBound (fresh marks) (bindsAt ws widths (planParts v inputs guard) (marked marks) (sorted s)) (fresh marks)
   unfolding bindsAt
-  solve-past {k} e h = rw (e, elem-past guard k h) (bound-none (fresh marks))
+  solve-past {k} e h = rw (e, past-elem guard k h) (bound-none (fresh marks))
 
   pub solve-there : {k : ℕ} {r : Bound} → s ≡ Solve k → k < length guard → IsBound (fresh marks) (solveAt ws v (marked marks) (getD guard k 0)) r → IsBound (fresh marks) (bindsAt ws widths (planParts v inputs guard) (marked marks) (sorted s)) r
   unfolding bindsAt
-  solve-there {k} e h x = rw (e, elem-at guard k h) x
+  solve-there {k} e h x = rw (e, elem-number guard k 0 h) x
 
   pub range-there : {n : ℕ} {r : Bound} → s ≡ Range n → IsBound (fresh marks) (unboundOf v (marked marks) n) r → IsBound (fresh marks) (bindsAt ws widths (planParts v inputs guard) (marked marks) (sorted s)) r
   unfolding bindsAt

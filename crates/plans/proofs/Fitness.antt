@@ -34,6 +34,11 @@ use Rattle.plans.specs.Fitness.{after, loneAt, loneFrom, matchAt, allBou
 
 -- ── A variable alone ──
 
+-- a test turned round, with its answers exchanged
+pub unless : (n : ℕ) (t : Bool) → cond (not t) (n ∷ []) [] ≡ cond t [] (n ∷ [])
+unless n true = refl
+unless n false = refl
+
 -- the word of a kind without a test of its own at a position that exists
 word-here : (ws : List ℕ) (k at : ℕ) → ((p : ℕ) → fitsKind k p ≡ true) → at < length ws → at < mostWords → kind (getD ws at 0) ≡ k → word ws k (fitsKind k) at ≡ read (payload (getD ws at 0)) (at + 1)
 unfolding word wordAt
@@ -64,10 +69,6 @@ module _ (ws : List ℕ) (v at : ℕ) (e : Expression) (next : ℕ) (r : readExp
       nine : kind (getD ws at 0) ≡ 9 → kind (getD ws at 0) ≡ 8 → ⊥
       nine p q = omega arith
 
-      flip : (n : ℕ) (t : Bool) → cond (not t) (n ∷ []) [] ≡ cond t [] (n ∷ [])
-      flip n true = refl
-      flip n false = refl
-
       seven : kind (getD ws at 0) ≡ 7 → kind (getD ws at 0) ≡ 8 → ⊥
       seven p q = omega arith
 
@@ -76,7 +77,7 @@ module _ (ws : List ℕ) (v at : ℕ) (e : Expression) (next : ℕ) (r : readExp
       by (variable n) h b =
           let s = short in
           let p : ltb (payload (getD ws at 0)) v ≡ true = rw (← h .1) b in
-          rw (word-here ws 8 at (λ p. refl) (omega arith) (omega arith) (h .0), p, h .1) (flip (payload (getD ws at 0)) (isBound (payload (getD ws at 0))))
+          rw (word-here ws 8 at (λ p. refl) (omega arith) (omega arith) (h .0), p, h .1) (unless (payload (getD ws at 0)) (isBound (payload (getD ws at 0))))
       by (binary o x y) h b = other (nine h)
       by (load x) h b = other (nine h)
 

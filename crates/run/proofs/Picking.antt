@@ -39,7 +39,8 @@ use Rattle.net.proofs.Located.{At, net-transitions}
 use Rattle.net.proofs.Placed.{index-outline, variables-placed}
 use Rattle.marking.specs.declared.index.MarkingIndex.{MarkingIndex}
 use Rattle.marking.specs.Marked.{markingRead, Begins, IsMarking}
-use Rattle.marking.proofs.Bound.{ranged-length, ranged-small}
+use Rattle.semantics.proofs.Partial.{range-length}
+use Rattle.marking.proofs.Bound.{ranged-small}
 use Rattle.occurrence.proofs.Reading.{binding-lent}
 use Rattle.firing.specs.Fire.{Fireable}
 use Rattle.rows.proofs.Rows.{row-room}
@@ -235,7 +236,7 @@ module _ {ws ps widths transitions buffer : List ℕ} {size w : ℕ} (P : Pickab
           as-many = let a = ap (λ (o : Outline). o .variables) outlines in let f = sound .few-variables in omega arith
 
           wide : Every (λ (b : List ℤ). length b ≡ v′) (lists .bindings)
-          wide = Every-of (λ (b : List ℤ). length b ≡ v′) (lists .bindings) (λ b j. ranged-length (chosen .0 .variables) b (ranged b j) ∙ sym as-many)
+          wide = Every-of (λ (b : List ℤ). length b ≡ v′) (lists .bindings) (λ b j. range-length (chosen .0 .variables) b (ranged b j) ∙ sym as-many)
 
           b-ranged : inRanges (chosen .0 .variables) (picked .0) ≡ true
           b-ranged = ranged (picked .0) (at-member (lists .bindings) (w % 16384) (picked .0) (picked .1))
@@ -263,7 +264,7 @@ module _ {ws ps widths transitions buffer : List ℕ} {size w : ℕ} (P : Pickab
             outputs = every-arc (SoundArc (net .places) (length (chosen .0 .variables))) (λ (a : Arc). a .place < length (net .places)) (λ a s. s .there) (chosen .0 .outputs) (sound .outputs);
             marked = P .marked;
             begun = begun;
-            many = ap length b-words ∙ length-map (picked .0) valueWord ∙ ranged-length (chosen .0 .variables) (picked .0) b-ranged;
+            many = ap length b-words ∙ length-map (picked .0) valueWord ∙ range-length (chosen .0 .variables) (picked .0) b-ranged;
             values = binding-lent (row v′ (w % 16384) after) (picked .0) b-words b-small;
           }
 

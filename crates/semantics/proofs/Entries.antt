@@ -39,7 +39,7 @@ pub record Good (places : List Place) (e : Entry) : Type 0 where
   pub limited : e .count ≤ mostCount
   pub ranged : inRanges (rangesAt places (e .place)) (e .colour) ≡ true
 
-entry-path : (d e : Entry) → d .place ≡ e .place → d .count ≡ e .count → d .colour ≡ e .colour → d ≡ e
+pub entry-path : (d e : Entry) → d .place ≡ e .place → d .count ≡ e .count → d .colour ≡ e .colour → d ≡ e
 entry-path d e p q r = λ i. record { place = p i; count = q i; colour = r i }
 
 -- ── Counts of entries ──

@@ -1,7 +1,7 @@
 -- Members of lists by their number: a number below the length has a member, and a member has a number.
 -- Each law goes by the list. Rests on specs/Lists.
 use mathlib.Core.Path.{_≡_, refl, sym, ap, subst}
-use mathlib.Core.List.{List, [], _∷_, map, List·Memᴰ, List·Memᴰ·head, List·Memᴰ·tail}
+use mathlib.Core.List.{List, [], _∷_, _++_, map, List·Memᴰ, List·Memᴰ·head, List·Memᴰ·tail}
 use mathlib.Core.Option.{Option, none, some, Option·map}
 use Prim.Native.Nat.{ℕ, zero, suc, _≤_, _<_}
 use native.Mathlib.Nat.{le-of-suc-le-suc, not-suc-le-zero}
@@ -37,6 +37,11 @@ module _ {A : Type 0} where
   past-elem (x ∷ xs) zero h = absurd (omega arith)
   past-elem (x ∷ xs) (suc i) h = past-elem xs i (omega arith)
 
+  pub elem-number : (l : List A) (i : ℕ) (d : A) → i < length l → getElem? l i ≡ some (getD l i d)
+  elem-number [] i d h = absurd (omega arith)
+  elem-number (x ∷ xs) zero d h = refl
+  elem-number (x ∷ xs) (suc i) d h = elem-number xs i d (omega arith)
+
   -- what every member has, the one of a number has
   module _ (P : A → Type 0) where
     pub every-elem : (l : List A) (i : ℕ) (a : A) → Every P l → getElem? l i ≡ some a → P a
@@ -48,6 +53,10 @@ module _ {A : Type 0} where
     every-number [] i d e h = absurd (omega arith)
     every-number (x ∷ xs) zero d e h = e .0
     every-number (x ∷ xs) (suc i) d e h = every-number xs i d (e .1) (omega arith)
+
+    pub every-snoc : (l : List A) (a : A) → Every P l → P a → Every P (l ++ (a ∷ []))
+    every-snoc [] a e h = (h, tt)
+    every-snoc (x ∷ xs) a e h = (e .0, every-snoc xs a (e .1) h)
 
 pub map-at : {A B : Type 0} (f : A → B) (l : List A) (n : ℕ) → getElem? (map f l) n ≡ Option·map f (getElem? l n)
 map-at f [] n = refl

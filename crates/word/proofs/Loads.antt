@@ -2,42 +2,29 @@
 -- every load is 0 to 14, and a deeper cut never loads less.
 use mathlib.Core.Path.{_≡_, refl, sym, ap, _∙_}
 use mathlib.Core.Bool.{Bool, true, false}
-use mathlib.Core.List.{List, [], _∷_}
 use mathlib.Core.Option.{none, some, Option·map}
-use Prim.Native.Nat.{ℕ, zero, suc, _≤_, _<_}
-use native.Mathlib.Nat.{le-of-suc-le-suc, not-suc-le-zero}
+use Prim.Native.Nat.{ℕ, suc, _≤_, _<_}
 use native.Mathlib.Omega.{arith}
 use borrow.Author.Tests.{leb-true, le-leb, ltb-true, ltb-false}
 use lib.Dec.{leb, ltb}
-use lib.ListN.{length, getD, getElem?}
+use lib.ListN.{getD}
 use lib.IntN.{ℤ, pos, negsuc}
 use lib.Signed.{leZ}
 use Rattle.semantics.specs.Expression.{loadOf, houseTable}
 use Rattle.semantics.specs.Plan.{everyBelow}
-use Rattle.semantics.proofs.Members.{none-some}
+use Rattle.semantics.proofs.Members.{none-some, past-elem, elem-number}
 use Rattle.semantics.proofs.Partial.{everyBelow-at}
 
 -- ── Reading ──
 
--- an entry by its number
-pub at-getD : (l : List ℕ) (n : ℕ) → n < length l → getElem? l n ≡ some (getD l n 0)
-at-getD [] n h = absurd (not-suc-le-zero h)
-at-getD (x ∷ xs) zero h = refl
-at-getD (x ∷ xs) (suc n) h = at-getD xs n (le-of-suc-le-suc h)
-
-at-none : (l : List ℕ) (n : ℕ) → length l ≤ n → getElem? l n ≡ none
-at-none [] n h = refl
-at-none (x ∷ xs) zero h = absurd (not-suc-le-zero h)
-at-none (x ∷ xs) (suc n) h = at-none xs n (le-of-suc-le-suc h)
-
 -- the load of a depth of the table, and none past it
 pub load-at : (n : ℕ) → n < 16 → loadOf houseTable (pos n) ≡ some (pos (getD houseTable n 0))
 unfolding loadOf
-load-at n h = ap (Option·map pos) (at-getD houseTable n h)
+load-at n h = ap (Option·map pos) (elem-number houseTable n 0 h)
 
 pub load-past : (n : ℕ) → 16 ≤ n → loadOf houseTable (pos n) ≡ none
 unfolding loadOf
-load-past n h = ap (Option·map pos) (at-none houseTable n h)
+load-past n h = ap (Option·map pos) (past-elem houseTable n h)
 
 -- a load is an entry of the table
 pub record Loaded (z v : ℤ) : Type 0 where
