@@ -37,8 +37,7 @@ use Rattle.net.specs.Index.{transitionRead, outlined}
 use Rattle.net.specs.Places.{placesAt}
 use Rattle.net.proofs.Located.{At, net-transitions}
 use Rattle.net.proofs.Placed.{index-outline, variables-placed}
-use Rattle.marking.specs.declared.index.MarkingIndex.{MarkingIndex}
-use Rattle.marking.specs.Marked.{markingRead, Begins, IsMarking}
+use Rattle.marking.specs.Marked.{markingRead, Begins, Accepted, Indexed}
 use Rattle.marking.proofs.Bound.{ranged-length, ranged-small}
 use Rattle.occurrence.proofs.Reading.{binding-lent}
 use Rattle.firing.specs.Fire.{Fireable}
@@ -145,23 +144,30 @@ module _ {ws ps widths transitions buffer : List ℕ} {size w : ℕ} (P : Pickab
   reads : readTransition ws (net .places) (getD transitions (pickTransition w) 0) ≡ read (chosen .0) (stands .next)
   reads = rw at-position (stands .reads)
 
+  -- the marking, by the places where they stand
+  marked-at : markingRead (placesAt ws ps) (take size buffer) ≡ read (P .entries) (P .end)
+  marked-at = subst (λ ps′. markingRead ps′ (take size buffer) ≡ read (P .entries) (P .end)) (P .known .placed) (P .marked)
+
+  pub pick-accepted : Accepted (placesAt ws ps) (take size buffer)
+  pick-accepted = record { entries = P .entries; end = P .end; marked = marked-at }
+
   pub scene-is : sceneOf ws (getD transitions (pickTransition w) 0) (take size buffer) ≡ record { net = net; transition = chosen .0; counts = countsOf (P .entries) }
   unfolding sceneOf
   scene-is = rw (reads, P .marked)
 
   -- ── Its menu ──
 
-  module _ (t : TransitionIndex) (y : transitionRead t ≡ skimTransition ws widths (getD transitions (pickTransition w) 0)) (k : MarkingIndex) (z : IsMarking (placesAt ws ps) (take size buffer) k) where
+  module _ (t : TransitionIndex) (y : transitionRead t ≡ skimTransition ws widths (getD transitions (pickTransition w) 0)) {begins : List ℕ} (z : Indexed (placesAt ws ps) (take size buffer) begins) where
     outlines : outlined t ≡ outline (chosen .0)
     outlines = index-outline ws (net .places) (getD transitions (pickTransition w) 0) t (rw (P .known .wide) at y) (chosen .0) (stands .next) reads .0
 
-    begun : Begins (P .entries) (k .begins)
-    begun = record { at = λ p l. z .begins (P .entries) (P .end) (subst (λ ps′. markingRead ps′ (take size buffer) ≡ read (P .entries) (P .end)) (P .known .placed) (P .marked)) p l }
+    begun : Begins (P .entries) begins
+    begun = z .of (P .entries) (P .end) marked-at
 
-    pub pick-listable : length (k .begins) ≡ 65 → Listable ws ps (getD transitions (pickTransition w) 0) t (take size buffer) (k .begins)
-    pick-listable l = record { world = subst (World ws ps (getD transitions (pickTransition w) 0) (t .variables) (outlined t .inputs) (outlined t .guard) (outlined t .plan) (take size buffer) (k .begins)) (sym scene-is) world }
+    pub pick-listable : Listable ws ps (getD transitions (pickTransition w) 0) t (take size buffer) begins
+    pick-listable = record { world = subst (World ws ps (getD transitions (pickTransition w) 0) (t .variables) (outlined t .inputs) (outlined t .guard) (outlined t .plan) (take size buffer) begins) (sym scene-is) world }
       where
-        world : World ws ps (getD transitions (pickTransition w) 0) (t .variables) (outlined t .inputs) (outlined t .guard) (outlined t .plan) (take size buffer) (k .begins) (record { net = net; transition = chosen .0; counts = countsOf (P .entries) })
+        world : World ws ps (getD transitions (pickTransition w) 0) (t .variables) (outlined t .inputs) (outlined t .guard) (outlined t .plan) (take size buffer) begins (record { net = net; transition = chosen .0; counts = countsOf (P .entries) })
         world = record {
           whole = P .known .whole;
           accepted = P .known .accepted;
@@ -179,7 +185,7 @@ module _ {ws ps widths transitions buffer : List ℕ} {size w : ℕ} (P : Pickab
           marked = P .marked;
           counted = refl;
           begun = begun;
-          beginnings = l;
+          beginnings = z .long;
         }
 
     module _ (budget : ℕ) (spare menus : List ℕ) {a : Listed} {after : List ℕ} (i : IsListed ws (getD transitions (pickTransition w) 0) (take size buffer) budget menus a after) where
@@ -246,7 +252,7 @@ module _ {ws ps widths transitions buffer : List ℕ} {size w : ℕ} (P : Pickab
           b-small : Every (λ z. mag z < 8192) (picked .0)
           b-small = ranged-small ws (length (chosen .0 .variables)) (getD transitions (pickTransition w) 0 + 1) (picked .0) (rw (← variables-placed ws (net .places) (getD transitions (pickTransition w) 0) (chosen .0) (stands .next) reads) b-ranged)
 
-          fireable : Fireable ws ps t (take size buffer) (k .begins) (row v′ (w % 16384) after)
+          fireable : Fireable ws ps t (take size buffer) begins (row v′ (w % 16384) after)
           fireable = record {
             net = net;
             at = getD transitions (pickTransition w) 0;
@@ -275,9 +281,9 @@ module _ {ws ps widths transitions buffer : List ℕ} {size w : ℕ} (P : Pickab
               let m = lists .many in
               row-room (w % 16384) (length (lists .bindings)) v′ (length after) (omega arith) (omega arith)
 
-          pub pick-fires : length (k .begins) ≡ 65 → FiresRow ws ps t (k .begins) buffer size after (w % 16384)
-          pick-fires l = record { within = inside; fires = record { fits = P .known .fits; beginnings = l; inside = P .inside; fireable = fireable } }
+          pub pick-fires : FiresRow ws ps t begins buffer size after (w % 16384)
+          pick-fires = record { within = inside; fires = record { fits = P .known .fits; beginnings = z .long; inside = P .inside; fireable = fireable } }
 
-          pub pick-fired : {r : Picked} {b : List ℕ} → IsFiredAt ws ps t (k .begins) buffer size spare (row v′ (w % 16384) after) r b → IsPicked ws budget buffer size spare menus w r b
+          pub pick-fired : {r : Picked} {b : List ℕ} → IsFiredAt ws ps t begins buffer size spare (row v′ (w % 16384) after) r b → IsPicked ws budget buffer size spare menus w r b
           unfolding fireable
           pick-fired f = leaves-by (picks-at (ap (getElem? (lists .bindings)) (sym index-is) ∙ picked .1)) (f .fired fireable)

@@ -1,7 +1,7 @@
 // One pick: the menu of its transition, the binding at its index, and the marking after it.
 use accept::plan::at_most;
 use firing::fire::fire_binding;
-use marking::index::read_marking;
+use marking::begins::index_marking;
 use net::index::TransitionIndex;
 use net::index::read_transition;
 use patch::words::copy_words;
@@ -104,8 +104,8 @@ pub fn pick_once(
     let index = (w % 16384) as usize;
     let position = transitions[number];
     let t = read_transition(net, widths, position);
-    let marking = read_marking(net, places, &buffer[..length]);
-    let begins = marking.begins;
+    let mut begins = [0usize; 65];
+    index_marking(net, places, &buffer[..length], &mut begins);
     match list_bindings(
         net,
         places,
