@@ -16,7 +16,7 @@ ghost use Rattle.net.specs.Places.{PlacesFit};
 ghost use Rattle.firing.specs.Fire.{FireableAt, IsFiredAt, Fireable, IsFired, fireEnd};
 
 // 13, 14, 15 and 16 in that order, or the new marking is written. The conjuncts and arcs of the transition stand at these positions.
-fn fire_arcs(
+pub fn fire_arcs(
     net: &[u32],
     places: &[usize],
     conjuncts: &[usize],

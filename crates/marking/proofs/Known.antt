@@ -3,7 +3,7 @@
 use mathlib.Core.Path.{_≡_, refl, sym, ap, _∙_, subst}
 use Prim.Native.Nat.{ℕ, _+_, _-_, _/_, _%_, _≤_, _<_}
 use mathlib.Core.Logic.{_⊎_, inl, inr}
-use mathlib.Core.Bool.{Bool, true, false}
+use mathlib.Core.Bool.{true, false}
 use mathlib.Core.List.{List, [], _∷_}
 use native.Mathlib.Omega.{arith}
 use lib.IntN.{ℤ}
@@ -21,7 +21,7 @@ use Rattle.net.specs.Skim.{changed}
 use Rattle.net.specs.Places.{widthAt, placesAt}
 use Rattle.net.proofs.Placed.{places-length, width-at}
 use Rattle.marking.specs.declared.entry.EntryRead.the-variants.{Entry as EntryAt, Refused as EntryRefused}
-use Rattle.marking.specs.Marked.{tokenIn, entryPlace, markingRead, Begun, risesAfter, IsMarking, Accepted, Indexed}
+use Rattle.marking.specs.Marked.{tokenIn, entryPlace, Begun, risesAfter, IsMarking, Accepted, Indexed}
 use Rattle.marking.proofs.Rising.{entry-stands, SoFar, so-far-start, marking-ends, marking-refused, marking-unordered, marking-goes}
 
 -- the place of an entry, told from its TOKEN word
