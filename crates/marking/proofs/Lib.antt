@@ -4,6 +4,7 @@ pub mod Comparing
 pub mod Codes
 pub mod Entries
 pub mod Rising
+pub mod Known
 pub mod Ranked
 pub mod Blocks
 pub mod Found

@@ -108,6 +108,17 @@ pub record IsRank (cs : List (List ℤ)) (c : List ℤ) (r : ℕ) : Type 0 where
 pub record Begins (es : List Entry) (begins : List ℕ) : Type 0 where
   pub at : (p : ℕ) → p ≤ 64 → getD begins p 0 ≡ beginOf es p
 
+-- words that are a marking
+pub record Accepted (places : List Place) (ws : List ℕ) : Type 0 where
+  pub entries : List Entry
+  pub end : ℕ
+  pub marked : markingRead places ws ≡ read entries end
+
+-- the places' beginnings in the marking that the words are
+pub record Indexed (places : List Place) (ws begins : List ℕ) : Type 0 where
+  pub long : length begins ≡ 65
+  pub of : (es : List Entry) (next : ℕ) → markingRead places ws ≡ read es next → Begins es begins
+
 -- where the entry of a place and colour stands or would stand, and its count, in a marking with these beginnings
 pub record IsSpot (ws begins : List ℕ) (p : ℕ) (c : List ℤ) (r : Spot) : Type 0 where
   pub found : (ps : List Place) (es : List Entry) (next : ℕ) → markingRead ps ws ≡ read es next → Begins es begins → length (rangesAt ps p) ≡ length c → (r .at ≡ positionOf es (key p c)) × (r .count ≡ countsOf es p c)

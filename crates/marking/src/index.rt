@@ -16,7 +16,7 @@ pub struct MarkingIndex {
 }
 
 // The places from one number to another begin here.
-fn begin_all(begins: &mut [usize], from: usize, to: usize, at: usize)
+pub fn begin_all(begins: &mut [usize], from: usize, to: usize, at: usize)
     requires { ⌜ to ≤ length (now begins) ⌝ }
     ensures { λ r. ⌜ Begun (now (begins .entry)) from to at (now (begins .exit)) ⌝ }
 {

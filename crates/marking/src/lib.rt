@@ -13,6 +13,8 @@ pub mod code;
 pub mod entry;
 // A whole marking: where the entries of each place begin.
 pub mod index;
+// The same of a marking that is known to be accepted.
+pub mod begins;
 // The count of a colour.
 pub mod find;
 // Bindings.

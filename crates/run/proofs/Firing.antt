@@ -1,7 +1,7 @@
 -- The rules of firing into the spare and copying back: what fire leaves at the front of the spare is at the front of the buffer afterwards.
 use mathlib.Core.Path.{_≡_, refl, sym, ap, _∙_, subst}
 use mathlib.Core.List.{List, _++_}
-use Prim.Native.Nat.{ℕ, _+_, _-_, _*_, min, _≤_}
+use Prim.Native.Nat.{ℕ, _+_, _-_, _*_, _/_, _%_, min, _≤_}
 use native.Mathlib.Omega.{arith}
 use lib.ListN.{length, take, drop, length-append, length-take}
 use lib.Seq.{slice, length-take-le, take-at, take-append-le}
@@ -14,11 +14,13 @@ use Rattle.semantics.specs.Enabling.{Firing, moved, stopped}
 use Rattle.semantics.specs.Run.{fire}
 use Rattle.semantics.specs.Calls.{FireEnd, firedBy}
 use Rattle.semantics.proofs.Tests.{false-true}
-use Rattle.net.specs.declared.index.TransitionIndex.{TransitionIndex}
-use Rattle.firing.specs.Fire.{Fireable, fireEnd, IsFired}
+use Rattle.firing.specs.Fire.{FireableAt, fireEnd, IsFiredAt as IsFired}
 use Rattle.patch.specs.Patch.{written}
 use Rattle.run.specs.declared.pick.Picked.{Picked}
-use Rattle.run.specs.Pick.{Leaves, Fires, row, FiresRow, IsFiredAt}
+use Rattle.run.specs.Parts.{variablesIn, inputsIn, outputsIn, guardIn}
+use Rattle.tries.specs.World.{World}
+use Rattle.search.specs.Scene.{sceneOf}
+use Rattle.run.specs.Pick.{Lists, Leaves, Fires, row, FiresRow, IsFiredAt}
 
 -- what fire answers and leaves, by what it comes to
 by-refused : (net : Net) (part after : List ℕ) (n p : ℕ) (x : Firing) → fireEnd (FireRefused n p) after ≡ firedBy net part x → x ≡ stopped n
@@ -43,21 +45,21 @@ by-written net part after next (moved m) e =
       leaves = λ r buffer s b f g h. (f, g ∙ n, ap (λ (k : ℕ). take k b) g ∙ h);
     }
 
-module _ {ws ps : List ℕ} (t : TransitionIndex) {begins : List ℕ} (buffer : List ℕ) (size : ℕ) (spare : List ℕ) {bs : List ℕ} {room : ℕ} (e : room ≡ min (length spare) (length buffer)) {a : Fired} {after : List ℕ} (f : IsFired ws ps t (take size buffer) begins bs (take room spare) a after) where
+module _ {ws ps gs is os begins : List ℕ} (buffer : List ℕ) (size : ℕ) (spare : List ℕ) {bs : List ℕ} {room : ℕ} (e : room ≡ min (length spare) (length buffer)) {a : Fired} {after : List ℕ} (f : IsFired ws ps gs is os (take size buffer) begins bs (take room spare) a after) where
   roomy : length (take room spare) ≡ min (length buffer) (length spare)
   roomy = let l = length-take room spare in omega arith
 
-  comes : (q : Fireable ws ps t (take size buffer) begins bs) → fireEnd a after ≡ firedBy (q .net) (take room spare) (fire houseTable (q .net) (min (length buffer) (length spare)) (q .transition) (countsOf (q .entries)) (q .binding))
+  comes : (q : FireableAt ws ps gs is os (take size buffer) begins bs) → fireEnd a after ≡ firedBy (q .net) (take room spare) (fire houseTable (q .net) (min (length buffer) (length spare)) (q .transition) (countsOf (q .entries)) (q .binding))
   comes q = f .fired q ∙ ap (λ (k : ℕ). firedBy (q .net) (take room spare) (fire houseTable (q .net) k (q .transition) (countsOf (q .entries)) (q .binding))) roomy
 
-  pub fired-refused : {n p : ℕ} → a ≡ FireRefused n p → IsFiredAt ws ps t begins buffer size spare bs (record { refusal = n; length = size }) buffer
+  pub fired-refused : {n p : ℕ} → a ≡ FireRefused n p → IsFiredAt ws ps gs is os begins buffer size spare bs (record { refusal = n; length = size }) buffer
   fired-refused {n} {p} d = record { fired = λ q. let s = by-refused (q .net) (take room spare) after n p (fire houseTable (q .net) (min (length buffer) (length spare)) (q .transition) (countsOf (q .entries)) (q .binding)) (subst (λ (x : Fired). fireEnd x after ≡ firedBy (q .net) (take room spare) (fire houseTable (q .net) (min (length buffer) (length spare)) (q .transition) (countsOf (q .entries)) (q .binding))) d (comes q)) in subst (Leaves (q .net) buffer size (record { refusal = n; length = size }) buffer) (sym s) (refl, refl) }
 
   module _ {next : ℕ} (d : a ≡ Written next) where
-    into : (q : Fireable ws ps t (take size buffer) begins bs) → Fired-into (q .net) (take room spare) after next (fire houseTable (q .net) (min (length buffer) (length spare)) (q .transition) (countsOf (q .entries)) (q .binding))
+    into : (q : FireableAt ws ps gs is os (take size buffer) begins bs) → Fired-into (q .net) (take room spare) after next (fire houseTable (q .net) (min (length buffer) (length spare)) (q .transition) (countsOf (q .entries)) (q .binding))
     into q = by-written (q .net) (take room spare) after next (fire houseTable (q .net) (min (length buffer) (length spare)) (q .transition) (countsOf (q .entries)) (q .binding)) (subst (λ (x : Fired). fireEnd x after ≡ firedBy (q .net) (take room spare) (fire houseTable (q .net) (min (length buffer) (length spare)) (q .transition) (countsOf (q .entries)) (q .binding))) d (comes q))
 
-    pub written-fits : Fireable ws ps t (take size buffer) begins bs → length after ≡ length (take room spare) → next ≤ room
+    pub written-fits : FireableAt ws ps gs is os (take size buffer) begins bs → length after ≡ length (take room spare) → next ≤ room
     written-fits q l =
         let i = into q in
         let n = i .size in
@@ -73,7 +75,7 @@ module _ {ws ps : List ℕ} (t : TransitionIndex) {begins : List ℕ} (buffer : 
         let k = length-append after rest in
         (omega arith, omega (arith, l, r, e, h, k), omega (arith, e, h))
 
-    pub fired-written : {b : List ℕ} (rest : List ℕ) → length after ≡ length (take room spare) → next ≤ room → b ≡ written buffer 0 (slice 0 next (after ++ rest)) → IsFiredAt ws ps t begins buffer size spare bs (record { refusal = 0; length = next }) b
+    pub fired-written : {b : List ℕ} (rest : List ℕ) → length after ≡ length (take room spare) → next ≤ room → b ≡ written buffer 0 (slice 0 next (after ++ rest)) → IsFiredAt ws ps gs is os begins buffer size spare bs (record { refusal = 0; length = next }) b
     fired-written {b} rest l h g = record { fired = λ q. let i = into q in i .leaves (record { refusal = 0; length = next }) buffer size b refl refl (front ∙ i .front) }
       where
         r : length (take room spare) ≡ min room (length spare)
@@ -88,16 +90,23 @@ module _ {ws ps : List ℕ} (t : TransitionIndex) {begins : List ℕ} (buffer : 
         front : take next b ≡ take next after
         front = ap (take next) (g ∙ ap (written buffer 0) cut) ∙ take-at (take next after) (drop (0 + length (take next after)) buffer) next (length-take-le next after inside)
 
--- the part of a menu from a row's first word to its last
-module _ {ws ps : List ℕ} {t : TransitionIndex} {begins buffer : List ℕ} {size : ℕ} {menu : List ℕ} {i : ℕ} (Q : FiresRow ws ps t begins buffer size menu i) {v : ℕ} (e : v ≡ min (t .variables) 8) where
-  pub row-within : i * v + v ≤ length menu
-  row-within = rw e (Q .within)
+-- a part from a number to as many more
+pub part-is : (from n : ℕ) (l : List ℕ) → take (from + n - from) (drop from l) ≡ take n (drop from l)
+part-is from n l = let d : from + n - from ≡ n = omega arith in ap (λ (k : ℕ). take k (drop from l)) d
 
-  row-is : take (i * v + v - i * v) (drop (i * v) menu) ≡ row (min (t .variables) 8) i menu
-  row-is = let d : i * v + v - i * v ≡ v = omega arith in ap (λ (k : ℕ). take k (drop (i * v) menu)) d ∙ ap (λ (k : ℕ). row k i menu) e
+-- the parts of a transition, and the part of a menu from a row's first word to its last
+module _ {ws ps : List ℕ} {head : ℕ} {own begins buffer : List ℕ} {size : ℕ} {menu : List ℕ} {i : ℕ} (Q : FiresRow ws ps head own begins buffer size menu i) where
+  abbrev v : ℕ
+  v = variablesIn head
 
-  pub row-fires : Fires ws ps t begins buffer size (take (i * v + v - i * v) (drop (i * v) menu))
-  row-fires = rw row-is (Q .fires)
+  pub row-fires : Fires ws ps (take (16 + head / 4096 % 16 - 16) (drop 16 own)) (inputsIn head own) (take (8 + head / 256 % 16 - 8) (drop 8 own)) begins buffer size (take (i * v + v - i * v) (drop (i * v) menu))
+  row-fires = rw (part-is 16 (head / 4096 % 16) own, part-is 8 (head / 256 % 16) own, part-is (i * v) v menu) (Q .fires)
 
-  pub row-fired : {spare : List ℕ} {r : Picked} {b : List ℕ} → IsFiredAt ws ps t begins buffer size spare (take (i * v + v - i * v) (drop (i * v) menu)) r b → IsFiredAt ws ps t begins buffer size spare (row (min (t .variables) 8) i menu) r b
-  row-fired {spare} {r} {b} = subst (λ (l : List ℕ). IsFiredAt ws ps t begins buffer size spare l r b) row-is
+  pub row-fired : {spare : List ℕ} {r : Picked} {b : List ℕ} → IsFiredAt ws ps (take (16 + head / 4096 % 16 - 16) (drop 16 own)) (inputsIn head own) (take (8 + head / 256 % 16 - 8) (drop 8 own)) begins buffer size spare (take (i * v + v - i * v) (drop (i * v) menu)) r b → IsFiredAt ws ps (guardIn head own) (inputsIn head own) (outputsIn head own) begins buffer size spare (row v i menu) r b
+  row-fired f = rw (part-is 16 (head / 4096 % 16) own, part-is 8 (head / 256 % 16) own, part-is (i * v) v menu) at f
+
+-- ── The menu ──
+
+-- the parts of a transition, as they are cut out of its positions
+pub parts-listed : {ws ps : List ℕ} {position head : ℕ} {own ms begins : List ℕ} → Lists ws ps position head own ms begins → World ws ps position (variablesIn head) (inputsIn head own) (take (16 + head / 4096 % 16 - 16) (drop 16 own)) (take (24 + head / 65536 % 16 - 24) (drop 24 own)) ms begins (sceneOf ws position ms)
+parts-listed {head = head} {own = own} L = rw (part-is 16 (head / 4096 % 16) own, part-is 24 (head / 65536 % 16) own) (L .world)

@@ -1,4 +1,5 @@
 pub mod Starting
+pub mod Parting
 pub mod Firing
 pub mod Picking
 pub mod Running

@@ -3,14 +3,14 @@
 use mathlib.Core.Path.{_≡_, refl, sym, ap, _∙_, subst}
 use mathlib.Core.List.{List, [], _∷_, _++_, map, flatMap, append-assoc, List·Memᴰ}
 use mathlib.Core.Bool.{true}
-use mathlib.Core.Option.{Option, none, some}
-use Prim.Native.Nat.{ℕ, zero, suc, _+_, _*_, _%_, min, _≤_, _<_}
+use mathlib.Core.Option.{Option, some}
+use Prim.Native.Nat.{ℕ, zero, suc, _+_, _*_, _-_, _/_, _%_, _≤_, _<_}
 use native.Mathlib.Omega.{arith}
 use native.Mathlib.Nat.{suc-mul, zero-mul}
 use lib.IntN.{ℤ}
 use lib.Signed.{mag}
-use lib.ListN.{length, getD, getElem?, take, drop, length-map, length-append}
-use lib.Seq.{take-at, drop-at, drop-drop}
+use lib.ListN.{length, getD, getElem?, take, drop, length-map, length-append, length-take, length-drop}
+use lib.Seq.{length-take-le, take-at, drop-at, drop-drop}
 use Rattle.semantics.specs.declared.Listed.{Listed}
 use Rattle.semantics.specs.declared.Listed.the-variants.{Found, Refused as MenuRefused}
 use Rattle.semantics.specs.Refusal.{noSuchIndex}
@@ -28,28 +28,28 @@ use Rattle.semantics.specs.Run.{menu, Offer, offered, withheld, offer, fireAt, 
 use Rattle.semantics.specs.Calls.{Situation, MenuEnd, listedBy, limits}
 use Rattle.semantics.proofs.Tests.{false-true, Every-of}
 use Rattle.semantics.proofs.Members.{none-some, length-at, at-member}
-use Rattle.semantics.proofs.Accepted.{SoundArc, SoundTransition, transition-sound, accepted-read, accepted-planned}
+use Rattle.semantics.proofs.Accepted.{SoundArc, SoundTransition, transition-sound, accepted-read, accepted-sound, accepted-planned}
 use Rattle.semantics.proofs.Offer.{offer-made}
 use Rattle.semantics.proofs.Menu.{menu-members}
-use Rattle.net.specs.declared.index.TransitionIndex.{TransitionIndex}
-use Rattle.net.specs.Skim.{Outline, outline, skimTransition}
-use Rattle.net.specs.Index.{transitionRead, outlined}
+use Rattle.net.specs.Skim.{outline}
 use Rattle.net.specs.Places.{placesAt}
 use Rattle.net.proofs.Located.{At, net-transitions}
-use Rattle.net.proofs.Placed.{index-outline, variables-placed}
-use Rattle.marking.specs.declared.index.MarkingIndex.{MarkingIndex}
-use Rattle.marking.specs.Marked.{markingRead, Begins, IsMarking}
+use Rattle.net.proofs.Placed.{variables-placed}
+use Rattle.marking.specs.Marked.{markingRead, Begins, Accepted, Indexed}
 use Rattle.semantics.proofs.Partial.{range-length}
 use Rattle.marking.proofs.Bound.{ranged-small}
 use Rattle.occurrence.proofs.Reading.{binding-lent}
-use Rattle.firing.specs.Fire.{Fireable}
+use Rattle.firing.specs.Fire.{FireableAt}
 use Rattle.rows.proofs.Rows.{row-room}
 use Rattle.tries.specs.World.{World}
 use Rattle.search.specs.Scene.{netOf, countsIn, sceneOf}
 use Rattle.search.specs.Search.{menuEnd}
-use Rattle.search.specs.Menu.{Listable, IsListed}
+use Rattle.search.specs.Menu.{IsListed}
 use Rattle.run.specs.declared.pick.Picked.{Picked}
-use Rattle.run.specs.Pick.{Leaves, row, FiresRow, IsFiredAt, Pickable, IsPicked}
+use Rattle.run.specs.Parts.{variablesIn, inputsIn, outputsIn, guardIn, planIn, Parted}
+use Rattle.run.specs.Pick.{Leaves, row, FiresRow, Lists, IsFiredAt, Pickable, IsPicked}
+use Rattle.run.proofs.Parting.{head-inside, past-end, position-at, member-has}
+use Rattle.run.proofs.Firing.{part-is}
 
 -- ── What was listed ──
 
@@ -57,14 +57,14 @@ withheld-is : (buffer after : List ℕ) (n p : ℕ) (x : Offer) → menuEnd (Men
 withheld-is buffer after n p (offered bs w) e = let a : MenuRefused n p ≡ Found (length bs) w = ap (λ (m : MenuEnd). m .answer) e in false-true (cc)
 withheld-is buffer after n p (withheld k) e = let a : MenuRefused n p ≡ MenuRefused k 0 = ap (λ (m : MenuEnd). m .answer) e in cc
 
-pub record Lists (buffer after : List ℕ) (n : ℕ) (x : Offer) : Type 0 where
+pub record Offered (buffer after : List ℕ) (n : ℕ) (x : Offer) : Type 0 where
   pub bindings : List (List ℤ)
   pub tries : ℕ
   pub is : x ≡ offered bindings tries
   pub many : n ≡ length bindings
   pub words : after ≡ flatMap (map valueWord) bindings ++ drop (length (flatMap (map valueWord) bindings)) buffer
 
-offered-is : (buffer after : List ℕ) (n w : ℕ) (x : Offer) → menuEnd (Found n w) after ≡ listedBy buffer x → Lists buffer after n x
+offered-is : (buffer after : List ℕ) (n w : ℕ) (x : Offer) → menuEnd (Found n w) after ≡ listedBy buffer x → Offered buffer after n x
 offered-is buffer after n w (withheld k) e = let a : Found n w ≡ MenuRefused k 0 = ap (λ (m : MenuEnd). m .answer) e in false-true (cc)
 offered-is buffer after n w (offered bs v) e =
     let a : Found n w ≡ Found (length bs) v = ap (λ (m : MenuEnd). m .answer) e in
@@ -102,28 +102,13 @@ flat-length (x ∷ bs) v h =
     let s = suc-mul (length bs) v in
     omega arith
 
-past-end : {A : Type 0} (l : List A) (i : ℕ) → length l ≤ i → getElem? l i ≡ none
-past-end [] i h = refl
-past-end (x ∷ xs) zero h = absurd (omega arith)
-past-end (x ∷ xs) (suc i) h = past-end xs i (omega arith)
-
-position-at : (ts : List Transition) (i : ℕ) (t : Transition) → getElem? ts i ≡ some t → getD (map (λ (t : Transition). t .position) ts) i 0 ≡ t .position
-position-at [] i t h = none-some h
-position-at (x ∷ xs) zero t h = let q : x ≡ t = cc in ap (λ (t : Transition). t .position) q
-position-at (x ∷ xs) (suc i) t h = position-at xs i t h
-
-member-has : {A : Type 0} (P : A → Type 0) (l : List A) (i : ℕ) (a : A) → Every P l → getElem? l i ≡ some a → P a
-member-has P [] i a e h = none-some h
-member-has P (x ∷ xs) zero a e h = let q : x ≡ a = cc in subst P q (e .0)
-member-has P (x ∷ xs) (suc i) a e h = member-has P xs i a (e .1) h
-
 every-arc : (P Q : Arc → Type 0) → ((a : Arc) → P a → Q a) → (l : List Arc) → Every P l → Every Q l
 every-arc P Q f [] e = tt
 every-arc P Q f (x ∷ xs) e = (f x (e .0), every-arc P Q f xs (e .1))
 
 -- ── The transition of a pick ──
 
-module _ {ws ps widths transitions buffer : List ℕ} {size w : ℕ} (P : Pickable ws ps widths transitions buffer size w) where
+module _ {ws ps transitions parts buffer : List ℕ} {size w : ℕ} (P : Pickable ws ps transitions parts buffer size w) where
   abbrev net : Net
   net = netOf (acceptNet ws)
 
@@ -146,23 +131,46 @@ module _ {ws ps widths transitions buffer : List ℕ} {size w : ℕ} (P : Pickab
   reads : readTransition ws (net .places) (getD transitions (pickTransition w) 0) ≡ read (chosen .0) (stands .next)
   reads = rw at-position (stands .reads)
 
+  -- its TRANSITION word and its positions in the table, as the code has them
+  abbrev head : ℕ
+  head = getD ws (getD transitions (pickTransition w) 0) 0
+
+  abbrev own : List ℕ
+  own = take (pickTransition w * 32 + 32 - pickTransition w * 32) (drop (pickTransition w * 32) parts)
+
+  pub pick-inside : getD transitions (pickTransition w) 0 < length ws
+  pick-inside = head-inside ws (net .places) (getD transitions (pickTransition w) 0) (chosen .0) (stands .next) reads
+
+  pub pick-room : pickTransition w * 32 + 32 ≤ length parts
+  pick-room = let f = accepted-sound ws net (P .known .whole) (P .known .accepted) .few-transitions in let h = P .there in let l = P .kept .long in omega arith
+
+  parted : Parted head own (outline (chosen .0))
+  parted = subst (λ (q : ℕ). Parted (getD ws q 0) own (outline (chosen .0))) (sym at-position) (rw (part-is (pickTransition w * 32) 32 parts) (P .kept .each (pickTransition w) (chosen .0) (chosen .1)))
+
+  own-long : length own ≡ 32
+  own-long = rw (part-is (pickTransition w * 32) 32 parts) (let l = length-drop (pickTransition w * 32) parts in let r = pick-room in length-take-le 32 (drop (pickTransition w * 32) parts) (omega arith))
+
+  -- the marking, by the places where they stand
+  marked-at : markingRead (placesAt ws ps) (take size buffer) ≡ read (P .entries) (P .end)
+  marked-at = subst (λ ps′. markingRead ps′ (take size buffer) ≡ read (P .entries) (P .end)) (P .known .placed) (P .marked)
+
+  pub pick-accepted : Accepted (placesAt ws ps) (take size buffer)
+  pick-accepted = record { entries = P .entries; end = P .end; marked = marked-at }
+
   pub scene-is : sceneOf ws (getD transitions (pickTransition w) 0) (take size buffer) ≡ record { net = net; transition = chosen .0; counts = countsOf (P .entries) }
   unfolding sceneOf
   scene-is = rw (reads, P .marked)
 
   -- ── Its menu ──
 
-  module _ (t : TransitionIndex) (y : transitionRead t ≡ skimTransition ws widths (getD transitions (pickTransition w) 0)) (k : MarkingIndex) (z : IsMarking (placesAt ws ps) (take size buffer) k) where
-    outlines : outlined t ≡ outline (chosen .0)
-    outlines = index-outline ws (net .places) (getD transitions (pickTransition w) 0) t (rw (P .known .wide) at y) (chosen .0) (stands .next) reads .0
+  module _ {begins : List ℕ} (z : Indexed (placesAt ws ps) (take size buffer) begins) where
+    begun : Begins (P .entries) begins
+    begun = z .of (P .entries) (P .end) marked-at
 
-    begun : Begins (P .entries) (k .begins)
-    begun = record { at = λ p l. z .begins (P .entries) (P .end) (subst (λ ps′. markingRead ps′ (take size buffer) ≡ read (P .entries) (P .end)) (P .known .placed) (P .marked)) p l }
-
-    pub pick-listable : length (k .begins) ≡ 65 → Listable ws ps (getD transitions (pickTransition w) 0) t (take size buffer) (k .begins)
-    pick-listable l = record { world = subst (World ws ps (getD transitions (pickTransition w) 0) (t .variables) (outlined t .inputs) (outlined t .guard) (outlined t .plan) (take size buffer) (k .begins)) (sym scene-is) world }
+    pub pick-lists : Lists ws ps (getD transitions (pickTransition w) 0) head own (take size buffer) begins
+    pick-lists = record { few = parted .few; long = own-long; world = subst (World ws ps (getD transitions (pickTransition w) 0) (variablesIn head) (inputsIn head own) (guardIn head own) (planIn head own) (take size buffer) begins) (sym scene-is) world }
       where
-        world : World ws ps (getD transitions (pickTransition w) 0) (t .variables) (outlined t .inputs) (outlined t .guard) (outlined t .plan) (take size buffer) (k .begins) (record { net = net; transition = chosen .0; counts = countsOf (P .entries) })
+        world : World ws ps (getD transitions (pickTransition w) 0) (variablesIn head) (inputsIn head own) (guardIn head own) (planIn head own) (take size buffer) begins (record { net = net; transition = chosen .0; counts = countsOf (P .entries) })
         world = record {
           whole = P .known .whole;
           accepted = P .known .accepted;
@@ -170,17 +178,17 @@ module _ {ws ps widths transitions buffer : List ℕ} {size w : ℕ} (P : Pickab
           fits = P .known .fits;
           after = stands .next;
           there = reads;
-          many = ap (λ (o : Outline). o .variables) outlines;
-          arcs = ap (λ (o : Outline). o .inputs) outlines;
-          guards = ap (λ (o : Outline). o .guard) outlines;
-          plan = ap (λ (o : Outline). o .plan) outlines;
+          many = parted .variables;
+          arcs = parted .inputs;
+          guards = parted .guard;
+          plan = parted .plan;
           faultless = accepted-planned ws net (P .known .whole) (P .known .accepted) (chosen .0) (at-member (net .transitions) (pickTransition w) (chosen .0) (chosen .1));
           entries = P .entries;
           end = P .end;
           marked = P .marked;
           counted = refl;
           begun = begun;
-          beginnings = l;
+          beginnings = z .long;
         }
 
     module _ (budget : ℕ) (spare menus : List ℕ) {a : Listed} {after : List ℕ} (i : IsListed ws (getD transitions (pickTransition w) 0) (take size buffer) budget menus a after) where
@@ -204,7 +212,7 @@ module _ {ws ps widths transitions buffer : List ℕ} {size w : ℕ} (P : Pickab
           leaves-by (ap (pickFrom houseTable net (limits budget buffer spare menus) (chosen .0) (countsOf (P .entries)) (pickIndex w)) o) (refl, refl)
 
       module _ {n v : ℕ} (d : a ≡ Found n v) where
-        lists : Lists menus after n (offer houseTable net budget (length menus) (chosen .0) (countsOf (P .entries)))
+        lists : Offered menus after n (offer houseTable net budget (length menus) (chosen .0) (countsOf (P .entries)))
         lists = offered-is menus after n v (offer houseTable net budget (length menus) (chosen .0) (countsOf (P .entries))) (subst (λ (x : Listed). menuEnd x after ≡ listedBy menus (offer houseTable net budget (length menus) (chosen .0) (countsOf (P .entries)))) d offer-is)
 
         picks-at : {o : Option (List ℤ)} → getElem? (lists .bindings) (pickIndex w) ≡ o → pickFrom houseTable net (limits budget buffer spare menus) (chosen .0) (countsOf (P .entries)) (pickIndex w) (offer houseTable net budget (length menus) (chosen .0) (countsOf (P .entries))) ≡ fireAt houseTable net (limits budget buffer spare menus) (chosen .0) (countsOf (P .entries)) o
@@ -218,7 +226,7 @@ module _ {ws ps widths transitions buffer : List ℕ} {size w : ℕ} (P : Pickab
 
         module _ (h : w % 16384 < n) where
           abbrev v′ : ℕ
-          v′ = min (t .variables) 8
+          v′ = variablesIn head
 
           picked : (b : List ℤ) × (getElem? (lists .bindings) (w % 16384) ≡ some b)
           picked = let m = lists .many in length-at (lists .bindings) (w % 16384) (omega arith)
@@ -233,7 +241,7 @@ module _ {ws ps widths transitions buffer : List ℕ} {size w : ℕ} (P : Pickab
           sound = transition-sound ws (net .places) (getD transitions (pickTransition w) 0) (chosen .0) (stands .next) reads
 
           as-many : v′ ≡ length (chosen .0 .variables)
-          as-many = let a = ap (λ (o : Outline). o .variables) outlines in let f = sound .few-variables in omega arith
+          as-many = parted .variables
 
           wide : Every (λ (b : List ℤ). length b ≡ v′) (lists .bindings)
           wide = Every-of (λ (b : List ℤ). length b ≡ v′) (lists .bindings) (λ b j. range-length (chosen .0 .variables) b (ranged b j) ∙ sym as-many)
@@ -247,7 +255,7 @@ module _ {ws ps widths transitions buffer : List ℕ} {size w : ℕ} (P : Pickab
           b-small : Every (λ z. mag z < 8192) (picked .0)
           b-small = ranged-small ws (length (chosen .0 .variables)) (getD transitions (pickTransition w) 0 + 1) (picked .0) (rw (← variables-placed ws (net .places) (getD transitions (pickTransition w) 0) (chosen .0) (stands .next) reads) b-ranged)
 
-          fireable : Fireable ws ps t (take size buffer) (k .begins) (row v′ (w % 16384) after)
+          fireable : FireableAt ws ps (guardIn head own) (inputsIn head own) (outputsIn head own) (take size buffer) begins (row v′ (w % 16384) after)
           fireable = record {
             net = net;
             at = getD transitions (pickTransition w) 0;
@@ -258,9 +266,9 @@ module _ {ws ps widths transitions buffer : List ℕ} {size w : ℕ} (P : Pickab
             binding = picked .0;
             placed = P .known .placed;
             there = reads;
-            guard-at = ap (λ (o : Outline). o .guard) outlines;
-            inputs-at = ap (λ (o : Outline). o .inputs) outlines;
-            outputs-at = ap (λ (o : Outline). o .outputs) outlines;
+            guard-at = parted .guard;
+            inputs-at = parted .inputs;
+            outputs-at = parted .outputs;
             outputs = every-arc (SoundArc (net .places) (length (chosen .0 .variables))) (λ (a : Arc). a .place < length (net .places)) (λ a s. s .there) (chosen .0 .outputs) (sound .outputs);
             marked = P .marked;
             begun = begun;
@@ -276,9 +284,24 @@ module _ {ws ps widths transitions buffer : List ℕ} {size w : ℕ} (P : Pickab
               let m = lists .many in
               row-room (w % 16384) (length (lists .bindings)) v′ (length after) (omega arith) (omega arith)
 
-          pub pick-fires : length (k .begins) ≡ 65 → FiresRow ws ps t (k .begins) buffer size after (w % 16384)
-          pick-fires l = record { within = inside; fires = record { fits = P .known .fits; beginnings = l; inside = P .inside; fireable = fireable } }
+          few-of : (n : ℕ) (l : List ℕ) → n ≤ 8 → length (take n l) ≤ 8
+          few-of n l h = let m = length-take n l in omega arith
 
-          pub pick-fired : {r : Picked} {b : List ℕ} → IsFiredAt ws ps t (k .begins) buffer size spare (row v′ (w % 16384) after) r b → IsPicked ws budget buffer size spare menus w r b
+          pub pick-fires : FiresRow ws ps head own begins buffer size after (w % 16384)
+          pick-fires = record {
+            few = parted .few;
+            long = own-long;
+            within = inside;
+            fires = record {
+              fits = P .known .fits;
+              beginnings = z .long;
+              few-inputs = few-of (head / 16 % 16) own (parted .few .inputs);
+              few-outputs = few-of (head / 256 % 16) (drop 8 own) (parted .few .outputs);
+              inside = P .inside;
+              fireable = fireable;
+            };
+          }
+
+          pub pick-fired : {r : Picked} {b : List ℕ} → IsFiredAt ws ps (guardIn head own) (inputsIn head own) (outputsIn head own) begins buffer size spare (row v′ (w % 16384) after) r b → IsPicked ws budget buffer size spare menus w r b
           unfolding fireable
           pick-fired f = leaves-by (picks-at (ap (getElem? (lists .bindings)) (sym index-is) ∙ picked .1)) (f .fired fireable)

@@ -1,3 +1,4 @@
 pub mod Start
+pub mod Parts
 pub mod Pick
 pub mod Run

@@ -1,5 +1,5 @@
 -- What a pick leaves: the marking after it at the front of the buffer, or the marking before it and the refusal.
--- Rests on semantics/specs/Run, firing/specs/Fire and Start.
+-- Rests on semantics/specs/Run, firing/specs/Fire, Start and Parts.
 use mathlib.Core.Path.{_≡_}
 use mathlib.Core.List.{List}
 use Prim.Native.Nat.{ℕ, _+_, _*_, min, _≤_, _<_}
@@ -12,41 +12,54 @@ use Rattle.semantics.specs.Marking.{Entry, pickTransition, countsOf, markingWor
 use Rattle.semantics.specs.Enabling.{Firing, moved, stopped}
 use Rattle.semantics.specs.Run.{fire, pick}
 use Rattle.semantics.specs.Calls.{limits}
-use Rattle.net.specs.declared.index.TransitionIndex.{TransitionIndex}
 use Rattle.net.specs.Places.{PlacesFit}
 use Rattle.marking.specs.Marked.{markingRead}
-use Rattle.firing.specs.Fire.{Fireable}
-use Rattle.search.specs.Scene.{netOf, countsIn}
+use Rattle.firing.specs.Fire.{FireableAt}
+use Rattle.tries.specs.World.{World}
+use Rattle.search.specs.Scene.{netOf, countsIn, sceneOf}
 use Rattle.run.specs.declared.pick.Picked.{Picked}
 use Rattle.run.specs.Start.{NetKnown}
+use Rattle.run.specs.Parts.{variablesIn, inputsIn, outputsIn, guardIn, planIn, FewParts, PartsKept}
 
 -- the marking after a firing at the front of the buffer, or the one before it and the refusal
 abbrev pub Leaves : Net → List ℕ → ℕ → Picked → List ℕ → Firing → Type 0
 Leaves net buffer length′ r after (moved m) = (r .refusal ≡ 0) × (r .length ≡ length (markingWords net m)) × (take (r .length) after ≡ markingWords net m)
 Leaves net buffer length′ r after (stopped n) = (r .refusal ≡ n) × (take length′ after ≡ take length′ buffer)
 
--- a binding of a transition may be fired in the marking at the front of a buffer
-pub record Fires (ws ps : List ℕ) (t : TransitionIndex) (begins buffer : List ℕ) (size : ℕ) (bs : List ℕ) : Type 0 where
+-- a binding of a transition, whose conjuncts and arcs stand at these positions, may be fired in the marking at the front of a buffer
+pub record Fires (ws ps gs is os begins buffer : List ℕ) (size : ℕ) (bs : List ℕ) : Type 0 where
   pub fits : PlacesFit ws ps
   pub beginnings : length begins ≡ 65
+  pub few-inputs : length is ≤ 8
+  pub few-outputs : length os ≤ 8
   pub inside : size ≤ length buffer
-  pub fireable : Fireable ws ps t (take size buffer) begins bs
+  pub fireable : FireableAt ws ps gs is os (take size buffer) begins bs
 
 -- the words of the binding at an index of a menu, with v variables
 abbrev pub row : ℕ → ℕ → List ℕ → List ℕ
 row v index menu = take v (drop (index * v) menu)
 
--- the binding at an index of a menu may be fired
-pub record FiresRow (ws ps : List ℕ) (t : TransitionIndex) (begins buffer : List ℕ) (size : ℕ) (menu : List ℕ) (index : ℕ) : Type 0 where
-  pub within : index * min (t .variables) 8 + min (t .variables) 8 ≤ length menu
-  pub fires : Fires ws ps t begins buffer size (row (min (t .variables) 8) index menu)
+-- the binding at an index of a menu may be fired, by the TRANSITION word and the 32 positions of its transition
+pub record FiresRow (ws ps : List ℕ) (head : ℕ) (own begins buffer : List ℕ) (size : ℕ) (menu : List ℕ) (index : ℕ) : Type 0 where
+  pub few : FewParts head
+  pub long : length own ≡ 32
+  pub within : index * variablesIn head + variablesIn head ≤ length menu
+  pub fires : Fires ws ps (guardIn head own) (inputsIn head own) (outputsIn head own) begins buffer size (row (variablesIn head) index menu)
 
-pub record IsFiredAt (ws ps : List ℕ) (t : TransitionIndex) (begins buffer : List ℕ) (size : ℕ) (spare bs : List ℕ) (r : Picked) (after : List ℕ) : Type 0 where
-  pub fired : (q : Fireable ws ps t (take size buffer) begins bs) → Leaves (q .net) buffer size r after (fire houseTable (q .net) (min (length buffer) (length spare)) (q .transition) (countsOf (q .entries)) (q .binding))
+pub record IsFiredAt (ws ps gs is os begins buffer : List ℕ) (size : ℕ) (spare bs : List ℕ) (r : Picked) (after : List ℕ) : Type 0 where
+  pub fired : (q : FireableAt ws ps gs is os (take size buffer) begins bs) → Leaves (q .net) buffer size r after (fire houseTable (q .net) (min (length buffer) (length spare)) (q .transition) (countsOf (q .entries)) (q .binding))
 
--- a pick of one of the net's transitions, and an accepted marking at the front of a buffer
-pub record Pickable (ws ps widths transitions buffer : List ℕ) (size w : ℕ) : Type 0 where
+-- the menu of the transition at a position may be listed, by its TRANSITION word and its 32 positions
+pub record Lists (ws ps : List ℕ) (position head : ℕ) (own ms begins : List ℕ) : Type 0 where
+  pub few : FewParts head
+  pub long : length own ≡ 32
+  pub world : World ws ps position (variablesIn head) (inputsIn head own) (guardIn head own) (planIn head own) ms begins (sceneOf ws position ms)
+
+-- a pick of one of the net's transitions, whose parts were kept, and an accepted marking at the front of a buffer
+pub record Pickable (ws ps transitions parts buffer : List ℕ) (size w : ℕ) : Type 0 where
+  pub widths : List ℕ
   pub known : NetKnown ws ps widths transitions (netOf (acceptNet ws))
+  pub kept : PartsKept ws (netOf (acceptNet ws)) parts
   pub inside : size ≤ length buffer
   pub entries : List Entry
   pub end : ℕ

@@ -2,6 +2,8 @@
 
 // What a run starts from.
 pub mod begin;
+// The parts of the transitions.
+pub mod parts;
 // One pick.
 pub mod pick;
 // The call run.

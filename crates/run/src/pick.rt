@@ -1,15 +1,14 @@
 // One pick: the menu of its transition, the binding at its index, and the marking after it.
-use firing::fire::fire_binding;
-use marking::index::read_marking;
-use net::index::TransitionIndex;
-use net::index::read_transition;
+use firing::fire::fire_arcs;
+use marking::begins::index_marking;
 use patch::words::copy_words;
 use search::menu::list_bindings;
 use semantics::Fired;
 use semantics::Listed;
 use word::size::at_most;
-ghost use Prim.Native.Nat.{min};
-ghost use Rattle.run.specs.Pick.{Pickable, IsPicked, Fires, FiresRow, row, IsFiredAt};
+ghost use Rattle.run.specs.Parts.{variablesIn, inputsIn, outputsIn, guardIn};
+ghost use Rattle.search.specs.Menu.{IsListed};
+ghost use Rattle.run.specs.Pick.{Pickable, IsPicked, Lists, Fires, FiresRow, row, IsFiredAt};
 
 // The refusal that stops a pick, 0 for none, and the length of the marking after it.
 pub struct Picked {
@@ -17,25 +16,29 @@ pub struct Picked {
     pub length: usize,
 }
 
-// Fires a binding into the spare, and copies the new marking back.
+// Fires a binding into the spare, and copies the new marking back. The conjuncts and arcs of the transition stand at these positions.
 fn fire_at(
     net: &[u32],
     places: &[usize],
-    t: TransitionIndex,
+    conjuncts: &[usize],
+    inputs: &[usize],
+    outputs: &[usize],
     begins: &[usize],
     buffer: &mut [u32],
     length: usize,
     spare: &mut [u32],
     binding: &[u32],
 ) -> Picked
-    requires { ⌜ Fires (now net) (now places) t (now begins) (now buffer) length (now binding) ⌝ }
-    ensures { λ r. ⌜ IsFiredAt (now (net .entry)) (now (places .entry)) t (now (begins .entry)) (now (buffer .entry)) length (now (spare .entry)) (now (binding .entry)) r (now (buffer .exit)) ⌝ }
+    requires { ⌜ Fires (now net) (now places) (now conjuncts) (now inputs) (now outputs) (now begins) (now buffer) length (now binding) ⌝ }
+    ensures { λ r. ⌜ IsFiredAt (now (net .entry)) (now (places .entry)) (now (conjuncts .entry)) (now (inputs .entry)) (now (outputs .entry)) (now (begins .entry)) (now (buffer .entry)) length (now (spare .entry)) (now (binding .entry)) r (now (buffer .exit)) ⌝ }
 {
     let room = at_most(buffer.len(), spare.len());
-    match fire_binding(
+    match fire_arcs(
         net,
         places,
-        t,
+        conjuncts,
+        inputs,
+        outputs,
         &buffer[..length],
         begins,
         binding,
@@ -55,11 +58,12 @@ fn fire_at(
     }
 }
 
-// Fires the binding that stands at an index of the menu.
+// Fires the binding that stands at an index of the menu. The parts of the transition with this word stand at these 32 positions.
 fn fire_row(
     net: &[u32],
     places: &[usize],
-    t: TransitionIndex,
+    head: u32,
+    own: &[usize],
     begins: &[usize],
     buffer: &mut [u32],
     length: usize,
@@ -67,15 +71,20 @@ fn fire_row(
     menu: &[u32],
     index: usize,
 ) -> Picked
-    requires { ⌜ FiresRow (now net) (now places) t (now begins) (now buffer) length (now menu) index ⌝ }
-    ensures { λ r. ⌜ IsFiredAt (now (net .entry)) (now (places .entry)) t (now (begins .entry)) (now (buffer .entry)) length (now (spare .entry)) (row (min (t .variables) 8) index (now (menu .entry))) r (now (buffer .exit)) ⌝ }
+    requires { ⌜ FiresRow (now net) (now places) head (now own) (now begins) (now buffer) length (now menu) index ⌝ }
+    ensures { λ r. ⌜ IsFiredAt (now (net .entry)) (now (places .entry)) (guardIn head (now (own .entry))) (inputsIn head (now (own .entry))) (outputsIn head (now (own .entry))) (now (begins .entry)) (now (buffer .entry)) length (now (spare .entry)) (row (variablesIn head) index (now (menu .entry))) r (now (buffer .exit)) ⌝ }
 {
-    let variables = at_most(8, t.variables);
+    let variables = (head % 16) as usize;
+    let inputs = (head / 16 % 16) as usize;
+    let outputs = (head / 256 % 16) as usize;
+    let conjuncts = (head / 4096 % 16) as usize;
     let at = index * variables;
     fire_at(
         net,
         places,
-        t,
+        &own[16..16 + conjuncts],
+        &own[..inputs],
+        &own[8..8 + outputs],
         begins,
         buffer,
         length,
@@ -84,12 +93,46 @@ fn fire_row(
     )
 }
 
-// The pick w in a net whose places and transitions stand at these positions; the marking is the first words of the buffer.
+// The menu of the transition at a position, whose parts stand at these 32 positions by its word.
+fn list_menu(
+    net: &[u32],
+    places: &[usize],
+    position: usize,
+    head: u32,
+    own: &[usize],
+    marking: &[u32],
+    begins: &[usize],
+    budget: u32,
+    menu: &mut [u32],
+) -> Listed
+    requires { ⌜ Lists (now net) (now places) position head (now own) (now marking) (now begins) ⌝ }
+    ensures { λ r. ⌜ IsListed (now (net .entry)) position (now (marking .entry)) budget (now (menu .entry)) r (now (menu .exit)) ⌝ }
+{
+    let inputs = (head / 16 % 16) as usize;
+    let conjuncts = (head / 4096 % 16) as usize;
+    let elements = (head / 65536 % 16) as usize;
+    list_bindings(
+        net,
+        places,
+        position,
+        (head % 16) as usize,
+        &own[16..16 + conjuncts],
+        &own[..inputs],
+        &own[24..24 + elements],
+        marking,
+        begins,
+        budget,
+        menu,
+    )
+}
+
+// The pick w in a net whose places and transitions stand at these positions, and the parts of the transitions where the table says; the marking is the
+// first words of the buffer.
 pub fn pick_once(
     net: &[u32],
     places: &[usize],
-    widths: &[usize],
     transitions: &[usize],
+    parts: &[usize],
     budget: u32,
     buffer: &mut [u32],
     length: usize,
@@ -97,20 +140,23 @@ pub fn pick_once(
     menu: &mut [u32],
     w: u32,
 ) -> Picked
-    requires { ⌜ Pickable (now net) (now places) (now widths) (now transitions) (now buffer) length w ⌝ }
+    requires { ⌜ Pickable (now net) (now places) (now transitions) (now parts) (now buffer) length w ⌝ }
     ensures { λ r. ⌜ IsPicked (now (net .entry)) budget (now (buffer .entry)) length (now (spare .entry)) (now (menu .entry)) w r (now (buffer .exit)) ⌝ }
 {
     let number = (w / 16384 % 256) as usize;
     let index = (w % 16384) as usize;
     let position = transitions[number];
-    let t = read_transition(net, widths, position);
-    let marking = read_marking(net, places, &buffer[..length]);
-    let begins = marking.begins;
-    match list_bindings(
+    let head = net[position];
+    let from = number * 32;
+    let own = &parts[from..from + 32];
+    let mut begins = [0usize; 65];
+    index_marking(net, places, &buffer[..length], &mut begins);
+    match list_menu(
         net,
         places,
         position,
-        t,
+        head,
+        own,
         &buffer[..length],
         &begins[..],
         budget,
@@ -130,7 +176,8 @@ pub fn pick_once(
             fire_row(
                 net,
                 places,
-                t,
+                head,
+                own,
                 &begins[..],
                 buffer,
                 length,

@@ -1,5 +1,6 @@
 // The call run: picks fired one after the other, each from the marking that the one before it left.
 use crate::begin::begin;
+use crate::parts::keep_all;
 use crate::pick::pick_once;
 use expression::read::Skipped;
 use search::menu::clear;
@@ -32,6 +33,8 @@ fn fire_picks(
     requires { ⌜ Runnable (now net) (now places) (now widths) (now transitions) (now buffer) m (now picks) ⌝ }
     ensures { λ r. ⌜ HasRunFrom (now (net .entry)) budget (now (buffer .entry)) m (now (spare .entry)) (now (menu .entry)) (now (picks .entry)) r (now (buffer .exit)) ⌝ }
 {
+    let mut parts = [0usize; 2048];
+    keep_all(net, widths, transitions, &mut parts);
     let mut done = 0;
     let mut length = m;
     loop {
@@ -45,8 +48,8 @@ fn fire_picks(
         let one = pick_once(
             net,
             places,
-            widths,
             transitions,
+            &parts[..],
             budget,
             buffer,
             length,

@@ -27,8 +27,6 @@ use Rattle.semantics.proofs.Leaves.{Sound, sound-empty}
 use Rattle.semantics.proofs.Menu.{found-menu}
 use Rattle.expression.specs.Evaluate.{valueOf}
 use Rattle.marking.proofs.Counted.{marking-counts}
-use Rattle.net.specs.declared.index.TransitionIndex.{TransitionIndex}
-use Rattle.net.specs.Index.{outlined}
 use Rattle.rows.specs.Rows.{rowsOf, Listing, listed, over, listedIf, addAll, listingOf}
 use Rattle.rows.proofs.Listings.{add-all}
 use Rattle.rows.proofs.Rows.{rows-words, rows-length}
@@ -36,8 +34,7 @@ use Rattle.tries.specs.Partial.{partialOf}
 use Rattle.tries.specs.World.{World}
 use Rattle.search.specs.declared.progress.Progress.{Progress}
 use Rattle.search.specs.Search.{costFrom, rowsFrom, exhausted, reached, settle, outcomeOf, Held, Ended, menuEnd}
-use Rattle.search.specs.Scene.{sceneOf}
-use Rattle.search.specs.Menu.{mostRows, Listable}
+use Rattle.search.specs.Menu.{mostRows}
 use Rattle.search.proofs.Settling.{settled-on, settled-past}
 use Rattle.search.proofs.Worlds.{few-variables}
 
@@ -209,18 +206,6 @@ module _ {ws ps : List ℕ} {position v : ℕ} {inputs conjuncts elements ms beg
           by : (u : Bool) → listed (rowsOf v (r .rows) m) ≡ listedIf u offers → (u ≡ true) × (rowsOf v (r .rows) m ≡ offers)
           by true h = (refl, cc)
           by false h = let o : _≡_ {A = ℕ} 0 1 = cc in absurd (omega arith)
-
--- ── By the index of a transition ──
-
--- what is known of a transition, of numbers and positions that are the same
-pub listable-world : {ws ps : List ℕ} {position : ℕ} {t : TransitionIndex} {ms begins : List ℕ} → Listable ws ps position t ms begins → {v : ℕ} {inputs conjuncts elements : List ℕ} → v ≡ min (t .variables) 8 → inputs ≡ outlined t .inputs → conjuncts ≡ outlined t .guard → elements ≡ outlined t .plan → World ws ps position v inputs conjuncts elements ms begins (sceneOf ws position ms)
-listable-world {ws} {ps} {position} {t} {ms} {begins} L {v} {inputs} {conjuncts} {elements} e i c p =
-    let few = few-variables (L .world) in
-    let n : v ≡ t .variables = omega arith in
-    subst (λ (k : ℕ). World ws ps position k inputs conjuncts elements ms begins (sceneOf ws position ms)) (sym n)
-    (subst (λ (l : List ℕ). World ws ps position (t .variables) l conjuncts elements ms begins (sceneOf ws position ms)) (sym i)
-    (subst (λ (l : List ℕ). World ws ps position (t .variables) (outlined t .inputs) l elements ms begins (sceneOf ws position ms)) (sym c)
-    (subst (λ (l : List ℕ). World ws ps position (t .variables) (outlined t .inputs) (outlined t .guard) l ms begins (sceneOf ws position ms)) (sym p) (L .world))))
 
 -- room for a number of rows that is the same
 pub ended-most : {w most most′ budget n : ℕ} {m : List ℕ} {t : ℕ} {l : Listing} {cost : ℕ} {rows : List (List ℤ)} {r : Progress} {m′ : List ℕ} → most ≡ most′ → Ended w most budget n m t l cost rows r m′ → Ended w most′ budget n m t l cost rows r m′

@@ -19,7 +19,7 @@ use Rattle.occurrence.specs.Situation.{Prepared, IsSituation}
 use Rattle.tries.specs.World.{World}
 use Rattle.search.specs.Scene.{sceneOf}
 use Rattle.search.specs.Search.{menuEnd}
-use Rattle.search.specs.Menu.{Listable, IsListed}
+use Rattle.search.specs.Menu.{IsListed}
 
 pub menu-refused : (ws : List ℕ) (t : ℕ) (ms : List ℕ) (budget : ℕ) (buffer : List ℕ) {r : Prepared-numbers} {n p : ℕ} → IsSituation ws t ms r → r .end ≡ Refused n p → menuEnd (MenuRefused n p) buffer ≡ menuCall ws t ms budget buffer
 unfolding menuCall
@@ -34,10 +34,10 @@ module _ {ws : List ℕ} {t : ℕ} {ms : List ℕ} {r : Prepared-numbers} (P : P
   unfolding sceneOf
   scene-is = rw (P .accepted, P .there, P .marked)
 
-  pub prepared-listable : {ps begins : List ℕ} → ps ≡ take (r .places) (r .«places_at») → begins ≡ r .begins → length (r .begins) ≡ 65 → Listable ws ps (r .position) (r .transition) ms begins
-  prepared-listable {ps} {begins} e f l = record { world = subst (World ws ps (r .position) (r .transition .variables) (outlined (r .transition) .inputs) (outlined (r .transition) .guard) (outlined (r .transition) .plan) ms begins) (sym scene-is) world }
+  pub prepared-world : {ps begins inputs conjuncts elements : List ℕ} → ps ≡ take (r .places) (r .«places_at») → begins ≡ r .begins → length (r .begins) ≡ 65 → inputs ≡ outlined (r .transition) .inputs → conjuncts ≡ outlined (r .transition) .guard → elements ≡ outlined (r .transition) .plan → World ws ps (r .position) (r .transition .variables) inputs conjuncts elements ms begins (sceneOf ws (r .position) ms)
+  prepared-world {ps} {begins} {inputs} {conjuncts} {elements} e f l i c d = subst (World ws ps (r .position) (r .transition .variables) inputs conjuncts elements ms begins) (sym scene-is) world
     where
-      world : World ws ps (r .position) (r .transition .variables) (outlined (r .transition) .inputs) (outlined (r .transition) .guard) (outlined (r .transition) .plan) ms begins (record { net = P .net; transition = P .transition; counts = countsOf (P .entries) })
+      world : World ws ps (r .position) (r .transition .variables) inputs conjuncts elements ms begins (record { net = P .net; transition = P .transition; counts = countsOf (P .entries) })
       world = record {
         whole = P .whole;
         accepted = P .accepted;
@@ -46,9 +46,9 @@ module _ {ws : List ℕ} {t : ℕ} {ms : List ℕ} {r : Prepared-numbers} (P : P
         after = P .after;
         there = P .there;
         many = ap (λ (o : Outline). o .variables) (P .outlines);
-        arcs = ap (λ (o : Outline). o .inputs) (P .outlines);
-        guards = ap (λ (o : Outline). o .guard) (P .outlines);
-        plan = ap (λ (o : Outline). o .plan) (P .outlines);
+        arcs = i ∙ ap (λ (o : Outline). o .inputs) (P .outlines);
+        guards = c ∙ ap (λ (o : Outline). o .guard) (P .outlines);
+        plan = d ∙ ap (λ (o : Outline). o .plan) (P .outlines);
         faultless = accepted-planned ws (P .net) (P .whole) (P .accepted) (P .transition) (at-member (P .net .transitions) t (P .transition) (P .named));
         entries = P .entries;
         end = P .end;

@@ -11,19 +11,12 @@ use Rattle.semantics.specs.Refusal.{mostBindings}
 use Rattle.semantics.specs.Expression.{houseTable}
 use Rattle.semantics.specs.Run.{offer}
 use Rattle.semantics.specs.Calls.{listedBy}
-use Rattle.net.specs.declared.index.TransitionIndex.{TransitionIndex}
-use Rattle.net.specs.Index.{outlined}
-use Rattle.tries.specs.World.{World}
 use Rattle.search.specs.Scene.{sceneOf}
 use Rattle.search.specs.Search.{menuEnd}
 
 -- "N over 16,383, or N × V words over the menu buffer": the rows of a width that so many words hold
 abbrev pub mostRows : ℕ → ℕ → ℕ
 mostRows room width = cond (eqb width 0) mostBindings (min (room / width) mostBindings)
-
--- what the code knows of the transition at a position and of a marking
-pub record Listable (ws ps : List ℕ) (position : ℕ) (t : TransitionIndex) (ms begins : List ℕ) : Type 0 where
-  pub world : World ws ps position (t .variables) (outlined t .inputs) (outlined t .guard) (outlined t .plan) ms begins (sceneOf ws position ms)
 
 -- the menu of the transition at a position, and the buffer after it
 pub record IsListed (ws : List ℕ) (position : ℕ) (ms : List ℕ) (budget : ℕ) (buffer : List ℕ) (r : Listed) (after : List ℕ) : Type 0 where

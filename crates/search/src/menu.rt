@@ -2,7 +2,6 @@
 use crate::progress::Progress;
 use crate::walk::walk;
 use expression::read::Skipped;
-use net::index::TransitionIndex;
 use occurrence::situation::prepare;
 use semantics::Listed;
 use word::size::at_most;
@@ -10,7 +9,9 @@ ghost use mathlib.Core.Path.{_≡_};
 ghost use lib.ListN.{length, replicate};
 ghost use Rattle.semantics.specs.Calls.{menuCall};
 ghost use Rattle.search.specs.Search.{menuEnd};
-ghost use Rattle.search.specs.Menu.{mostRows, Listable, IsListed};
+ghost use Rattle.tries.specs.World.{World};
+ghost use Rattle.search.specs.Scene.{sceneOf};
+ghost use Rattle.search.specs.Menu.{mostRows, IsListed};
 
 // How many rows of a width fit into a menu of so many words, at most 16,383.
 fn most_rows(room: usize, width: usize) -> usize
@@ -33,36 +34,33 @@ pub fn clear(buffer: &mut [u32])
     }
 }
 
-// 10 where the tries pass the budget, 11 where the bindings do not fit, and then the menu is cleared; or N and W.
+// 10 where the tries pass the budget, 11 where the bindings do not fit, and then the menu is cleared; or N and W. The conjuncts, input arcs and
+// elements of the transition stand at these positions.
 pub fn list_bindings(
     net: &[u32],
     places: &[usize],
     position: usize,
-    t: TransitionIndex,
+    variables: usize,
+    conjuncts: &[usize],
+    inputs: &[usize],
+    elements: &[usize],
     marking: &[u32],
     begins: &[usize],
     budget: u32,
     menu: &mut [u32],
 ) -> Listed
-    requires { ⌜ Listable (now net) (now places) position t (now marking) (now begins) ⌝ }
+    requires { ⌜ World (now net) (now places) position variables (now inputs) (now conjuncts) (now elements) (now marking) (now begins) (sceneOf (now net) position (now marking)) ⌝ }
     ensures { λ r. ⌜ IsListed (now (net .entry)) position (now (marking .entry)) budget (now (menu .entry)) r (now (menu .exit)) ⌝ }
 {
-    let variables = at_most(8, t.variables);
-    let conjuncts = at_most(8, t.conjuncts);
-    let inputs = at_most(8, t.inputs);
-    let elements = at_most(8, t.elements);
-    let conjuncts_at = t.conjuncts_at;
-    let inputs_at = t.inputs_at;
-    let elements_at = t.elements_at;
     let most = most_rows(menu.len(), variables);
     let end = walk(
         net,
         places,
         position,
         variables,
-        &conjuncts_at[..conjuncts],
-        &inputs_at[..inputs],
-        &elements_at[..elements],
+        conjuncts,
+        inputs,
+        elements,
         marking,
         begins,
         0,
@@ -101,11 +99,20 @@ pub fn menu(net: &[u32], transition: u32, marking: &[u32], budget: u32, menu: &m
             let places_at = s.places_at;
             let begins = s.begins;
             let t = s.transition;
+            let conjuncts = at_most(8, t.conjuncts);
+            let inputs = at_most(8, t.inputs);
+            let elements = at_most(8, t.elements);
+            let conjuncts_at = t.conjuncts_at;
+            let inputs_at = t.inputs_at;
+            let elements_at = t.elements_at;
             list_bindings(
                 net,
                 &places_at[..places],
                 s.position,
-                t,
+                t.variables,
+                &conjuncts_at[..conjuncts],
+                &inputs_at[..inputs],
+                &elements_at[..elements],
                 marking,
                 &begins[..],
                 budget,

@@ -8,26 +8,26 @@ use Rattle.run.proofs.Firing.{fired-refused, written-fits, copy-fits, f
 use Rattle.run.proofs.pick.fire_at.Statement.{statement}
 use Rattle.run.proofs.pick.fire_at.Tie as tie
 
-marking-share : tie.Need-slice-reshare-prefix-fire-binding
-marking-share c = c .before .before .before .before .before .before .before .pre .inside
+marking-share : tie.Need-slice-reshare-prefix-fire-arcs
+marking-share c = (c .before .before .before .before .before .before .before .before .before .before .pre) .inside
 
-marking-slice : tie.Need-slice-aggregate-fire-binding
-marking-slice c = sym (length-take-le _ _ (c .before .before .before .before .before .before .before .before .pre .inside))
+marking-slice : tie.Need-slice-aggregate-fire-arcs
+marking-slice c = sym (length-take-le _ _ ((c .before .before .before .before .before .before .before .before .before .before .before .pre) .inside))
 
-spare-slice : tie.Need-slice-aggregate-fire-binding-2
-spare-slice c = let e = c .before .before .at-most .ensures in sym (length-take-le _ _ (omega arith))
+spare-slice : tie.Need-slice-aggregate-fire-arcs-2
+spare-slice c = let e = (c .before .before .at-most) .ensures in sym (length-take-le _ _ (omega arith))
 
-fire-binding-requires : tie.Need-fire-binding-requires
-fire-binding-requires c κs = (c .before .before .before .before .before .before .before .before .before .pre .fits, (c .before .before .before .before .before .before .before .before .before .pre .beginnings, c .before .before .before .before .before .before .before .before .before .pre .fireable))
+fire-arcs-requires : tie.Need-fire-arcs-requires
+fire-arcs-requires c κs = ((c .before .before .before .before .before .before .before .before .before .before .before .before .pre) .fits, ((c .before .before .before .before .before .before .before .before .before .before .before .before .pre) .beginnings, (((c .before .before .before .before .before .before .before .before .before .before .before .before .pre) .few-inputs, (c .before .before .before .before .before .before .before .before .before .before .before .before .pre) .few-outputs), (c .before .before .before .before .before .before .before .before .before .before .before .before .pre) .fireable)))
 
 copy-words-requires : tie.Need-copy-words-requires
-copy-words-requires c κs = copy-fits (c .before .before .before .before .before .before .before .before .before .before .before .before .before .before .before .before .before .args .t) (c .before .before .before .before .before .before .before .before .before .before .before .before .before .before .before .before .before .args .buffer .now) (c .before .before .before .before .before .before .before .before .before .before .before .before .before .before .before .before .before .args .length) (c .before .before .before .before .before .before .before .before .before .before .before .before .before .before .before .before .before .args .spare .now) (c .before .before .before .before .before .before .before .before .before .before .at-most .ensures) (c .before .before .before .before .before .before .before .fire-binding .ensures) (c .before .before .before .next .given .1) _ (c .before .before .before .before .before .before .before .fire-binding .kept .1 .1 .1 .1 .1 .1 .0) (written-fits (c .before .before .before .before .before .before .before .before .before .before .before .before .before .before .before .before .before .args .t) (c .before .before .before .before .before .before .before .before .before .before .before .before .before .before .before .before .before .args .buffer .now) (c .before .before .before .before .before .before .before .before .before .before .before .before .before .before .before .before .before .args .length) (c .before .before .before .before .before .before .before .before .before .before .before .before .before .before .before .before .before .args .spare .now) (c .before .before .before .before .before .before .before .before .before .before .at-most .ensures) (c .before .before .before .before .before .before .before .fire-binding .ensures) (c .before .before .before .next .given .1) (c .before .before .before .before .before .before .before .before .before .before .before .before .before .before .before .before .before .pre .fireable) (c .before .before .before .before .before .before .before .fire-binding .kept .1 .1 .1 .1 .1 .1 .0))
+copy-words-requires c κs = copy-fits ((c .before .before .before .before .before .before .before .before .before .before .before .before .before .before .before .before .before .before .before .before .args) .buffer .now) ((c .before .before .before .before .before .before .before .before .before .before .before .before .before .before .before .before .before .before .before .before .args) .length) ((c .before .before .before .before .before .before .before .before .before .before .before .before .before .before .before .before .before .before .before .before .args) .spare .now) ((c .before .before .before .before .before .before .before .before .before .before .at-most) .ensures) ((c .before .before .before .before .before .before .before .fire-arcs) .ensures) ((c .before .before .before .next) .given .1) _ ((c .before .before .before .before .before .before .before .fire-arcs) .kept .1 .1 .1 .1 .1 .1 .1 .1 .0) (written-fits ((c .before .before .before .before .before .before .before .before .before .before .before .before .before .before .before .before .before .before .before .before .args) .buffer .now) ((c .before .before .before .before .before .before .before .before .before .before .before .before .before .before .before .before .before .before .before .before .args) .length) ((c .before .before .before .before .before .before .before .before .before .before .before .before .before .before .before .before .before .before .before .before .args) .spare .now) ((c .before .before .before .before .before .before .before .before .before .before .at-most) .ensures) ((c .before .before .before .before .before .before .before .fire-arcs) .ensures) ((c .before .before .before .next) .given .1) ((c .before .before .before .before .before .before .before .before .before .before .before .before .before .before .before .before .before .before .before .before .pre) .fireable) ((c .before .before .before .before .before .before .before .fire-arcs) .kept .1 .1 .1 .1 .1 .1 .1 .1 .0))
 
 returns : tie.Need-returns
-returns c = fired-refused (c .before .before .before .before .before .before .before .before .before .before .before .before .before .before .before .args .t) (c .before .before .before .before .before .before .before .before .before .before .before .before .before .before .before .args .buffer .now) (c .before .before .before .before .before .before .before .before .before .before .before .before .before .before .before .args .length) (c .before .before .before .before .before .before .before .before .before .before .before .before .before .before .before .args .spare .now) (c .before .before .before .before .before .before .before .before .at-most .ensures) (c .before .before .before .before .before .fire-binding .ensures) (c .before .n .given .1)
+returns c = fired-refused ((c .before .before .before .before .before .before .before .before .before .before .before .before .before .before .before .before .before .before .args) .buffer .now) ((c .before .before .before .before .before .before .before .before .before .before .before .before .before .before .before .before .before .before .args) .length) ((c .before .before .before .before .before .before .before .before .before .before .before .before .before .before .before .before .before .before .args) .spare .now) ((c .before .before .before .before .before .before .before .before .at-most) .ensures) ((c .before .before .before .before .before .fire-arcs) .ensures) ((c .before .n) .given .1)
 
 returns-2 : tie.Need-returns-2
-returns-2 c = fired-written (c .before .before .before .before .before .before .before .before .before .before .before .before .before .before .before .before .before .before .before .before .args .t) (c .before .before .before .before .before .before .before .before .before .before .before .before .before .before .before .before .before .before .before .before .args .buffer .now) (c .before .before .before .before .before .before .before .before .before .before .before .before .before .before .before .before .before .before .before .before .args .length) (c .before .before .before .before .before .before .before .before .before .before .before .before .before .before .before .before .before .before .before .before .args .spare .now) (c .before .before .before .before .before .before .before .before .before .before .before .before .before .at-most .ensures) (c .before .before .before .before .before .before .before .before .before .before .fire-binding .ensures) (c .before .before .before .before .before .before .next .given .1) _ (c .before .before .before .before .before .before .before .before .before .before .fire-binding .kept .1 .1 .1 .1 .1 .1 .0) (written-fits (c .before .before .before .before .before .before .before .before .before .before .before .before .before .before .before .before .before .before .before .before .args .t) (c .before .before .before .before .before .before .before .before .before .before .before .before .before .before .before .before .before .before .before .before .args .buffer .now) (c .before .before .before .before .before .before .before .before .before .before .before .before .before .before .before .before .before .before .before .before .args .length) (c .before .before .before .before .before .before .before .before .before .before .before .before .before .before .before .before .before .before .before .before .args .spare .now) (c .before .before .before .before .before .before .before .before .before .before .before .before .before .at-most .ensures) (c .before .before .before .before .before .before .before .before .before .before .fire-binding .ensures) (c .before .before .before .before .before .before .next .given .1) (c .before .before .before .before .before .before .before .before .before .before .before .before .before .before .before .before .before .before .before .before .pre .fireable) (c .before .before .before .before .before .before .before .before .before .before .fire-binding .kept .1 .1 .1 .1 .1 .1 .0)) (c .before .before .copy-words .ensures)
+returns-2 c = fired-written ((c .before .before .before .before .before .before .before .before .before .before .before .before .before .before .before .before .before .before .before .before .before .before .before .args) .buffer .now) ((c .before .before .before .before .before .before .before .before .before .before .before .before .before .before .before .before .before .before .before .before .before .before .before .args) .length) ((c .before .before .before .before .before .before .before .before .before .before .before .before .before .before .before .before .before .before .before .before .before .before .before .args) .spare .now) ((c .before .before .before .before .before .before .before .before .before .before .before .before .before .at-most) .ensures) ((c .before .before .before .before .before .before .before .before .before .before .fire-arcs) .ensures) ((c .before .before .before .before .before .before .next) .given .1) _ ((c .before .before .before .before .before .before .before .before .before .before .fire-arcs) .kept .1 .1 .1 .1 .1 .1 .1 .1 .0) (written-fits ((c .before .before .before .before .before .before .before .before .before .before .before .before .before .before .before .before .before .before .before .before .before .before .before .args) .buffer .now) ((c .before .before .before .before .before .before .before .before .before .before .before .before .before .before .before .before .before .before .before .before .before .before .before .args) .length) ((c .before .before .before .before .before .before .before .before .before .before .before .before .before .before .before .before .before .before .before .before .before .before .before .args) .spare .now) ((c .before .before .before .before .before .before .before .before .before .before .before .before .before .at-most) .ensures) ((c .before .before .before .before .before .before .before .before .before .before .fire-arcs) .ensures) ((c .before .before .before .before .before .before .next) .given .1) ((c .before .before .before .before .before .before .before .before .before .before .before .before .before .before .before .before .before .before .before .before .before .before .before .pre) .fireable) ((c .before .before .before .before .before .before .before .before .before .before .fire-arcs) .kept .1 .1 .1 .1 .1 .1 .1 .1 .0)) ((c .before .before .copy-words) .ensures)
 
 pub fire-at-spec : {M : Type 1} → statement M
 fire-at-spec =
@@ -38,7 +38,7 @@ fire-at-spec =
     marking-slice
     (λ c. search needs)
     spare-slice
-    fire-binding-requires
+    fire-arcs-requires
     (λ c. search needs)
     (λ c. search needs)
     copy-words-requires

@@ -1,50 +1,46 @@
 -- `run::pick::pick_once` meets its contract: each return is a rule of `Picking`.
-use mathlib.Core.Path.{sym, _∙_}
-use borrow.Author.Needs.{needs}
-use lib.ListN.{length-map}
+use mathlib.Core.Path.{refl, sym}
 use lib.Seq.{length-take-le}
-use Rattle.run.proofs.Picking.{among, pick-listable, pick-withheld, pick-past, pick-fires, pick-fired}
+use Rattle.run.proofs.Picking.{among, pick-inside, pick-room, pick-accepted, pick-lists, pick-withheld, pick-past, pick-fires, pick-fired}
+use borrow.Author.Needs.{needs}
 use Rattle.run.proofs.pick.pick_once.Statement.{statement}
 use Rattle.run.proofs.pick.pick_once.Tie as tie
 
-transition-there : tie.Need-shared-slice-read-position
-transition-there c = among (c .before .before .before .before .before .before .before .before .pre)
+shared-slice-read-position : tie.Need-shared-slice-read-position
+shared-slice-read-position c = among (c .before .before .before .before .before .before .before .before .pre)
 
-marking-share : tie.Need-slice-reshare-prefix-read-marking
-marking-share c = (c .before .before .before .before .before .before .before .before .before .pre) .inside
+mul-head : tie.Need-mul-head
+mul-head c = let h = pick-inside (c .before .before .before .before .before .before .before .before .pre) in search needs
 
-marking-slice : tie.Need-slice-aggregate-read-marking
-marking-slice c = sym (length-take-le _ _ ((c .before .before .before .before .before .before .before .before .before .before .pre) .inside))
+shared-slice-read-head : tie.Need-shared-slice-read-head
+shared-slice-read-head c = pick-inside (c .before .before .before .before .before .before .before .before .before .pre)
 
-read-marking-requires : tie.Need-read-marking-requires
-read-marking-requires c κs = (c .before .before .before .before .before .before .before .before .before .before .pre) .known .fits
+part-own-end : tie.Need-part-own-end
+part-own-end c = pick-room (c .before .before .before .before .before .before .before .before .before .pre)
 
-menu-share : tie.Need-slice-reshare-prefix-list-bindings
-menu-share c = (c .before .before .before .before .before .before .before .before .before .before .before .before .pre) .inside
+slice-aggregate-index-marking : tie.Need-slice-aggregate-index-marking
+slice-aggregate-index-marking c = sym (length-take-le _ _ ((c .before .before .before .before .before .before .before .before .before .before .before .pre) .inside))
 
-menu-slice : tie.Need-slice-aggregate-list-bindings
-menu-slice c = sym (length-take-le _ _ ((c .before .before .before .before .before .before .before .before .before .before .before .before .before .pre) .inside))
+index-marking-requires : tie.Need-index-marking-requires
+index-marking-requires c κs = ((c .before .before .before .before .before .before .before .before .before .before .before .before .pre) .known .fits, (refl, pick-accepted (c .before .before .before .before .before .before .before .before .before .before .before .before .pre)))
 
-begins-slice : tie.Need-slice-aggregate-list-bindings-2
-begins-slice c = sym (sym (length-map ((c .before .before .before .read-marking) .result .begins) _) ∙ (c .before .before .before .read-marking) .ok .1 .1 .1 .0 .1 .0 .1)
+slice-aggregate-list-menu : tie.Need-slice-aggregate-list-menu
+slice-aggregate-list-menu c = sym (length-take-le _ _ ((c .before .before .before .before .before .before .before .before .before .before .before .before .before .before .pre) .inside))
 
-list-bindings-requires : tie.Need-list-bindings-requires
-list-bindings-requires c κs = pick-listable (c .before .before .before .before .before .before .before .before .before .before .before .before .before .before .before .pre) ((c .before .before .before .before .before .before .read-transition) .result) ((c .before .before .before .before .before .before .read-transition) .ensures) ((c .before .before .before .before .read-marking) .result) ((c .before .before .before .before .read-marking) .ensures) (sym (length-map ((c .before .before .before .before .read-marking) .result .begins) _) ∙ (c .before .before .before .before .read-marking) .ok .1 .1 .1 .0 .1 .0 .1)
+list-menu-requires : tie.Need-list-menu-requires
+list-menu-requires c κs = pick-lists (c .before .before .before .before .before .before .before .before .before .before .before .before .before .before .before .before .pre) ((c .before .before .before .index-marking) .ensures)
 
 returns : tie.Need-returns
-returns c = pick-past (c .before .before .before .before .before .before .before .before .before .before .before .before .before .before .before .before .before .before .before .before .before .before .pre) ((c .before .before .before .before .before .before .before .before .before .before .before .before .before .read-transition) .result) ((c .before .before .before .before .before .before .before .before .before .before .before .before .before .read-transition) .ensures) ((c .before .before .before .before .before .before .before .before .before .before .before .read-marking) .result) ((c .before .before .before .before .before .before .before .before .before .before .before .read-marking) .ensures) ((c .before .before .before .before .before .before .before .before .before .before .before .before .before .before .before .before .before .before .before .before .before .before .args) .budget) ((c .before .before .before .before .before .before .before .before .before .before .before .before .before .before .before .before .before .before .before .before .before .before .args) .spare .now) ((c .before .before .before .before .before .before .before .before .before .before .before .before .before .before .before .before .before .before .before .before .before .before .args) .menu .now) ((c .before .before .before .before .before .before .list-bindings) .ensures) ((c .before .before .count) .given .1) ((c .if1) .taken)
-
-begins-slice-2 : tie.Need-slice-aggregate-fire-row
-begins-slice-2 c = sym (sym (length-map ((c .before .before .before .before .before .before .before .before .before .before .before .before .read-marking) .result .begins) _) ∙ (c .before .before .before .before .before .before .before .before .before .before .before .before .read-marking) .ok .1 .1 .1 .0 .1 .0 .1)
+returns c = pick-past (c .before .before .before .before .before .before .before .before .before .before .before .before .before .before .before .before .before .before .before .before .before .before .before .pre) ((c .before .before .before .before .before .before .before .before .before .before .index-marking) .ensures) ((c .before .before .before .before .before .before .before .before .before .before .before .before .before .before .before .before .before .before .before .before .before .before .before .args) .budget) ((c .before .before .before .before .before .before .before .before .before .before .before .before .before .before .before .before .before .before .before .before .before .before .before .args) .spare .now) ((c .before .before .before .before .before .before .before .before .before .before .before .before .before .before .before .before .before .before .before .before .before .before .before .args) .menu .now) ((c .before .before .before .before .before .before .list-menu) .ensures) ((c .before .before .count) .given .1) ((c .if1) .taken)
 
 fire-row-requires : tie.Need-fire-row-requires
-fire-row-requires c κs = pick-fires (c .before .before .before .before .before .before .before .before .before .before .before .before .before .before .before .before .before .before .before .before .before .before .before .before .before .before .pre) ((c .before .before .before .before .before .before .before .before .before .before .before .before .before .before .before .before .before .read-transition) .result) ((c .before .before .before .before .before .before .before .before .before .before .before .before .before .before .before .before .before .read-transition) .ensures) ((c .before .before .before .before .before .before .before .before .before .before .before .before .before .before .before .read-marking) .result) ((c .before .before .before .before .before .before .before .before .before .before .before .before .before .before .before .read-marking) .ensures) ((c .before .before .before .before .before .before .before .before .before .before .before .before .before .before .before .before .before .before .before .before .before .before .before .before .before .before .args) .budget) ((c .before .before .before .before .before .before .before .before .before .before .before .before .before .before .before .before .before .before .before .before .before .before .before .before .before .before .args) .spare .now) ((c .before .before .before .before .before .before .before .before .before .before .before .before .before .before .before .before .before .before .before .before .before .before .before .before .before .before .args) .menu .now) ((c .before .before .before .before .before .before .before .before .before .before .list-bindings) .ensures) ((c .before .before .before .before .before .before .count) .given .1) ((c .before .before .before .before .if1) .left) (sym (length-map ((c .before .before .before .before .before .before .before .before .before .before .before .before .before .before .before .read-marking) .result .begins) _) ∙ (c .before .before .before .before .before .before .before .before .before .before .before .before .before .before .before .read-marking) .ok .1 .1 .1 .0 .1 .0 .1)
+fire-row-requires c κs = pick-fires (c .before .before .before .before .before .before .before .before .before .before .before .before .before .before .before .before .before .before .before .before .before .before .before .before .before .before .before .pre) ((c .before .before .before .before .before .before .before .before .before .before .before .before .before .before .index-marking) .ensures) ((c .before .before .before .before .before .before .before .before .before .before .before .before .before .before .before .before .before .before .before .before .before .before .before .before .before .before .before .args) .budget) ((c .before .before .before .before .before .before .before .before .before .before .before .before .before .before .before .before .before .before .before .before .before .before .before .before .before .before .before .args) .spare .now) ((c .before .before .before .before .before .before .before .before .before .before .before .before .before .before .before .before .before .before .before .before .before .before .before .before .before .before .before .args) .menu .now) ((c .before .before .before .before .before .before .before .before .before .before .list-menu) .ensures) ((c .before .before .before .before .before .before .count) .given .1) ((c .before .before .before .before .if1) .left)
 
 returns-2 : tie.Need-returns-2
-returns-2 c = pick-withheld (c .before .before .before .before .before .before .before .before .before .before .before .before .before .before .before .before .before .before .before .before .before .pre) ((c .before .before .before .before .before .before .before .before .before .before .before .before .read-transition) .result) ((c .before .before .before .before .before .before .before .before .before .before .before .before .read-transition) .ensures) ((c .before .before .before .before .before .before .before .before .before .before .read-marking) .result) ((c .before .before .before .before .before .before .before .before .before .before .read-marking) .ensures) ((c .before .before .before .before .before .before .before .before .before .before .before .before .before .before .before .before .before .before .before .before .before .args) .budget) ((c .before .before .before .before .before .before .before .before .before .before .before .before .before .before .before .before .before .before .before .before .before .args) .spare .now) ((c .before .before .before .before .before .before .before .before .before .before .before .before .before .before .before .before .before .before .before .before .before .args) .menu .now) ((c .before .before .before .before .before .list-bindings) .ensures) ((c .before .n) .given .1)
+returns-2 c = pick-withheld (c .before .before .before .before .before .before .before .before .before .before .before .before .before .before .before .before .before .before .before .before .before .before .pre) ((c .before .before .before .before .before .before .before .before .before .index-marking) .ensures) ((c .before .before .before .before .before .before .before .before .before .before .before .before .before .before .before .before .before .before .before .before .before .before .args) .budget) ((c .before .before .before .before .before .before .before .before .before .before .before .before .before .before .before .before .before .before .before .before .before .before .args) .spare .now) ((c .before .before .before .before .before .before .before .before .before .before .before .before .before .before .before .before .before .before .before .before .before .before .args) .menu .now) ((c .before .before .before .before .before .list-menu) .ensures) ((c .before .n) .given .1)
 
 returns-3 : tie.Need-returns-3
-returns-3 c = pick-fired (c .before .before .before .before .before .before .before .before .before .before .before .before .before .before .before .before .before .before .before .before .before .before .before .before .before .before .before .before .before .before .before .pre) ((c .before .before .before .before .before .before .before .before .before .before .before .before .before .before .before .before .before .before .before .before .before .before .read-transition) .result) ((c .before .before .before .before .before .before .before .before .before .before .before .before .before .before .before .before .before .before .before .before .before .before .read-transition) .ensures) ((c .before .before .before .before .before .before .before .before .before .before .before .before .before .before .before .before .before .before .before .before .read-marking) .result) ((c .before .before .before .before .before .before .before .before .before .before .before .before .before .before .before .before .before .before .before .before .read-marking) .ensures) ((c .before .before .before .before .before .before .before .before .before .before .before .before .before .before .before .before .before .before .before .before .before .before .before .before .before .before .before .before .before .before .before .args) .budget) ((c .before .before .before .before .before .before .before .before .before .before .before .before .before .before .before .before .before .before .before .before .before .before .before .before .before .before .before .before .before .before .before .args) .spare .now) ((c .before .before .before .before .before .before .before .before .before .before .before .before .before .before .before .before .before .before .before .before .before .before .before .before .before .before .before .before .before .before .before .args) .menu .now) ((c .before .before .before .before .before .before .before .before .before .before .before .before .before .before .before .list-bindings) .ensures) ((c .before .before .before .before .before .before .before .before .before .before .before .count) .given .1) ((c .before .before .before .before .before .before .before .before .before .if1) .left) ((c .before .before .before .before .fire-row) .ensures)
+returns-3 c = pick-fired (c .before .before .before .before .before .before .before .before .before .before .before .before .before .before .before .before .before .before .before .before .before .before .before .before .before .before .before .before .before .before .before .before .pre) ((c .before .before .before .before .before .before .before .before .before .before .before .before .before .before .before .before .before .before .before .index-marking) .ensures) ((c .before .before .before .before .before .before .before .before .before .before .before .before .before .before .before .before .before .before .before .before .before .before .before .before .before .before .before .before .before .before .before .before .args) .budget) ((c .before .before .before .before .before .before .before .before .before .before .before .before .before .before .before .before .before .before .before .before .before .before .before .before .before .before .before .before .before .before .before .before .args) .spare .now) ((c .before .before .before .before .before .before .before .before .before .before .before .before .before .before .before .before .before .before .before .before .before .before .before .before .before .before .before .before .before .before .before .before .args) .menu .now) ((c .before .before .before .before .before .before .before .before .before .before .before .before .before .before .before .list-menu) .ensures) ((c .before .before .before .before .before .before .before .before .before .before .before .count) .given .1) ((c .before .before .before .before .before .before .before .before .before .if1) .left) ((c .before .before .before .before .fire-row) .ensures)
 
 pub pick-once-spec : {M : Type 1} → statement M
 pick-once-spec =
@@ -53,22 +49,29 @@ pick-once-spec =
     (λ c. search needs)
     (λ c. search needs)
     (λ c. search needs)
-    transition-there
-    (λ c κs. search needs)
-    marking-share
-    marking-slice
-    read-marking-requires
-    menu-share
-    menu-slice
-    begins-slice
-    list-bindings-requires
+    shared-slice-read-position
+    mul-head
+    shared-slice-read-head
+    (λ c. search needs)
+    (λ c. search needs)
+    (λ c. search needs)
+    (λ c. search needs)
+    (λ c. search needs)
+    part-own-end
+    (λ c. search needs)
+    slice-aggregate-index-marking
+    index-marking-requires
+    (λ c. search needs)
+    slice-aggregate-list-menu
+    (λ c. search needs)
+    list-menu-requires
     (λ c. search needs)
     (λ c. search needs)
     (λ c. search needs)
     (λ c. search needs)
     (λ c. search needs)
     returns
-    begins-slice-2
+    (λ c. search needs)
     fire-row-requires
     (λ c. search needs)
     (λ c. search needs)

@@ -1,0 +1,103 @@
+-- The rules of indexing a marking that is known to be accepted: the loop of `Rising`, of which every turn that refuses is ruled out by what is known, so
+-- that an entry's place and end can be told from its TOKEN word alone.
+use mathlib.Core.Path.{_≡_, refl, sym, ap, _∙_, subst}
+use Prim.Native.Nat.{ℕ, _+_, _-_, _/_, _%_, _≤_, _<_}
+use mathlib.Core.Logic.{_⊎_, inl, inr}
+use mathlib.Core.Bool.{true, false}
+use mathlib.Core.List.{List, [], _∷_}
+use native.Mathlib.Omega.{arith}
+use lib.IntN.{ℤ}
+use lib.ListN.{length, getD}
+use Rattle.semantics.specs.Refusal.{badMarking}
+use Rattle.semantics.specs.Word.{kind, payload, bits}
+use Rattle.semantics.specs.Reading.{Reading, read, refused, then, word, valuesIn}
+use Rattle.semantics.specs.Net.{Place, rangesAt}
+use Rattle.semantics.specs.Marking.{Entry, readEntry}
+use Rattle.semantics.proofs.Spans.{Span, then-read, read-same, refused-read, word-read, drop-first}
+use Rattle.semantics.proofs.Tests.{either}
+use Rattle.expression.specs.declared.read.Skipped.the-variants.{Refused}
+use Rattle.expression.specs.Skip.{forget}
+use Rattle.net.specs.Skim.{changed}
+use Rattle.net.specs.Places.{widthAt, placesAt}
+use Rattle.net.proofs.Placed.{places-length, width-at}
+use Rattle.marking.specs.declared.entry.EntryRead.the-variants.{Entry as EntryAt, Refused as EntryRefused}
+use Rattle.marking.specs.Marked.{tokenIn, entryPlace, Begun, risesAfter, IsMarking, Accepted, Indexed}
+use Rattle.marking.proofs.Rising.{entry-stands, SoFar, so-far-start, marking-ends, marking-refused, marking-unordered, marking-goes}
+
+-- the place of an entry, told from its TOKEN word
+entry-place : (ps : List Place) (ws : List ℕ) (at : ℕ) (e : Entry) (next : ℕ) → readEntry ps ws at ≡ read e next → e .place ≡ getD ws at 0 / 16384 % 256
+unfolding readEntry
+entry-place ps ws at e next r =
+    then-read (word ws 0xB (tokenIn (length ps)) at) (λ w mid. then (valuesIn ws (rangesAt ps (bits 14 21 w)) mid) (λ c last. read (record { place = bits 14 21 w; count = bits 0 13 w; colour = c }) last)) e next r λ w mid p q.
+    then-read (valuesIn ws (rangesAt ps (bits 14 21 w)) mid) (λ c last. read (record { place = bits 14 21 w; count = bits 0 13 w; colour = c }) last) e next q λ c last p′ q′.
+    by w mid c last (word-read ws 0xB (tokenIn (length ps)) at w mid p) (read-same (record { place = bits 14 21 w; count = bits 0 13 w; colour = c }) e last next q′)
+  where
+    by : (w mid : ℕ) (c : List ℤ) (last : ℕ) → (v : ℕ) × Span ws at (v ∷ []) mid × (kind v ≡ 0xB) × (payload v ≡ w) × (tokenIn (length ps) w ≡ true) → (_≡_ {A = Entry} (record { place = bits 14 21 w; count = bits 0 13 w; colour = c }) e) × (last ≡ next) → e .place ≡ getD ws at 0 / 16384 % 256
+    by w mid c last (v, sp, k, f, o) s =
+        let t = drop-first ws at v _ (sp .split) in
+        sym (ap (λ (e : Entry). e .place) (s .0)) ∙ omega (arith, t .1, f)
+
+-- some entries were read, up to a position; the last one is on `place`
+pub record Known (ps : List Place) (ws begins : List ℕ) (place at : ℕ) : Type 0 where
+  pub last : ℕ
+  pub so-far : SoFar ps ws begins last place at
+
+pub known-start : (ps : List Place) (ws begins : List ℕ) → length begins ≡ 65 → getD begins 0 0 ≡ 0 → Known ps ws begins 0 0
+known-start ps ws begins l z = record { last = 0; so-far = so-far-start ps ws begins l z }
+
+-- a marking that is accepted is not refused
+never-refused : {ps : List Place} {ws : List ℕ} {q : ℕ} {begins : List ℕ} {G : Type 0} → Accepted ps ws → IsMarking ps ws (record { end = Refused badMarking q; begins = begins }) → G
+never-refused {q = q} A m = refused-read badMarking q _ (A .end) (m .same ∙ ap forget (A .marked))
+
+module _ {ps : List Place} {ws : List ℕ} (A : Accepted ps ws) {begins : List ℕ} {place at : ℕ} (K : Known ps ws begins place at) where
+  pub known-end : {begins′ : List ℕ} → length ws ≤ at → length begins′ ≡ length begins → Begun begins (place + 1) 65 at begins′ → Indexed ps ws begins′
+  known-end h l b = record { long = l ∙ K .so-far .long; of = λ es next e. record { at = marking-ends (K .so-far) h b .begins es next e } }
+
+  -- the entry ahead, which stands after the one before it
+  pub record Ahead : Type 0 where
+    pub entry : Entry
+    pub next : ℕ
+    pub reads : readEntry ps ws at ≡ read entry next
+    pub rises : risesAfter ws (K .last) place at (entry .place) (next - at - 1) ≡ true
+
+  ahead : at < length ws → Ahead
+  ahead h = by (readEntry ps ws at) refl
+    where
+      ordered : (e : Entry) (next : ℕ) → readEntry ps ws at ≡ read e next → (risesAfter ws (K .last) place at (e .place) (next - at - 1) ≡ true) ⊎ (risesAfter ws (K .last) place at (e .place) (next - at - 1) ≡ false) → Ahead
+      ordered e next r (inl t) = record { entry = e; next = next; reads = r; rises = t }
+      ordered e next r (inr t) = never-refused A (marking-unordered (K .so-far) h {r = EntryAt (e .place) next} (sym (ap (changed entryPlace) r)) refl {u = false} (sym t) refl)
+
+      by : (x : Reading Entry) → readEntry ps ws at ≡ x → Ahead
+      by (read e next) r = ordered e next r (either (risesAfter ws (K .last) place at (e .place) (next - at - 1)))
+      by (refused n q) r = never-refused A (marking-refused (K .so-far) h {r = EntryRefused n q} (sym (ap (changed entryPlace) r)) refl)
+
+module _ (nws ats : List ℕ) {ws : List ℕ} (A : Accepted (placesAt nws ats) ws) {begins : List ℕ} {place at : ℕ} (K : Known (placesAt nws ats) ws begins place at) (h : at < length ws) where
+  abbrev token : ℕ
+  token = getD ws at 0 / 16384 % 256
+
+  abbrev end : ℕ
+  end = at + (1 + widthAt nws (getD ats token 0))
+
+  a : Ahead A K
+  a = ahead A K h
+
+  here : a .entry .place ≡ token
+  here = entry-place (placesAt nws ats) ws at (a .entry) (a .next) (a .reads)
+
+  pub token-placed : token < length ats
+  token-placed = let p = entry-stands (placesAt nws ats) ws at (a .entry) (a .next) h (a .reads) .placed in omega (arith, here, places-length nws ats)
+
+  ends : a .next ≡ end
+  ends =
+      let s = entry-stands (placesAt nws ats) ws at (a .entry) (a .next) h (a .reads) .after in
+      let w = ap (λ (q : ℕ). length (rangesAt (placesAt nws ats) q)) here ∙ width-at nws ats token token-placed in
+      omega arith
+
+  pub token-inside : end ≤ length ws
+  token-inside = let i = entry-stands (placesAt nws ats) ws at (a .entry) (a .next) h (a .reads) .inside in omega (arith, ends)
+
+  pub known-goes : {begins′ : List ℕ} → length begins′ ≡ length begins → length ats ≤ 64 → Begun begins (place + 1) (token + 1) at begins′ → Known (placesAt nws ats) ws begins′ token end
+  known-goes {begins′} l few b = record {
+    last = at;
+    so-far = subst (SoFar (placesAt nws ats) ws begins′ at token) ends (marking-goes (K .so-far) h {r = EntryAt token (a .next)} (sym (ap (changed entryPlace) (a .reads) ∙ ap (λ (q : ℕ). read q (a .next)) here)) refl {u = true} (sym (rw here at (a .rises))) refl l (let p = token-placed in omega arith) b);
+  }
