@@ -1,5 +1,6 @@
 -- The rules of firing into the spare and copying back: what fire leaves at the front of the spare is at the front of the buffer afterwards.
 use mathlib.Core.Path.{_≡_, refl, sym, ap, _∙_, subst}
+use mathlib.Core.Bool.{true}
 use mathlib.Core.List.{List, _++_}
 use Prim.Native.Nat.{ℕ, _+_, _-_, _*_, _/_, _%_, min, _≤_}
 use native.Mathlib.Omega.{arith}
@@ -10,14 +11,15 @@ use Rattle.semantics.specs.declared.Fired.the-variants.{Written, Refused as Fir
 use Rattle.semantics.specs.Expression.{houseTable}
 use Rattle.semantics.specs.Net.{Net}
 use Rattle.semantics.specs.Marking.{countsOf, markingWords}
-use Rattle.semantics.specs.Enabling.{Firing, moved, stopped}
+use Rattle.semantics.specs.Enabling.{Firing, moved, stopped, isEnabled}
 use Rattle.semantics.specs.Run.{fire}
 use Rattle.semantics.specs.Calls.{FireEnd, firedBy}
 use Rattle.semantics.proofs.Tests.{false-true}
-use Rattle.firing.specs.Fire.{FireableAt, fireEnd, IsFiredAt as IsFired}
+use Rattle.firing.specs.Fire.{FireableAt, fireEnd, IsFiredEnabled}
+use Rattle.firing.proofs.Firing.{enabled-at}
 use Rattle.patch.specs.Patch.{written}
 use Rattle.run.specs.declared.pick.Picked.{Picked}
-use Rattle.run.specs.Parts.{variablesIn, inputsIn, outputsIn, guardIn}
+use Rattle.run.specs.Parts.{variablesIn, inputsIn, outputsIn}
 use Rattle.tries.specs.World.{World}
 use Rattle.search.specs.Scene.{sceneOf}
 use Rattle.run.specs.Pick.{Lists, Leaves, Fires, row, FiresRow, IsFiredAt}
@@ -45,23 +47,23 @@ by-written net part after next (moved m) e =
       leaves = λ r buffer s b f g h. (f, g ∙ n, ap (λ (k : ℕ). take k b) g ∙ h);
     }
 
-module _ {ws ps gs is os begins : List ℕ} (buffer : List ℕ) (size : ℕ) (spare : List ℕ) {bs : List ℕ} {room : ℕ} (e : room ≡ min (length spare) (length buffer)) {a : Fired} {after : List ℕ} (f : IsFired ws ps gs is os (take size buffer) begins bs (take room spare) a after) where
+module _ {ws ps is os begins : List ℕ} (buffer : List ℕ) (size : ℕ) (spare : List ℕ) {bs : List ℕ} {room : ℕ} (e : room ≡ min (length spare) (length buffer)) {a : Fired} {after : List ℕ} (f : IsFiredEnabled ws ps is os (take size buffer) begins bs (take room spare) a after) where
   roomy : length (take room spare) ≡ min (length buffer) (length spare)
   roomy = let l = length-take room spare in omega arith
 
-  comes : (q : FireableAt ws ps gs is os (take size buffer) begins bs) → fireEnd a after ≡ firedBy (q .net) (take room spare) (fire houseTable (q .net) (min (length buffer) (length spare)) (q .transition) (countsOf (q .entries)) (q .binding))
-  comes q = f .fired q ∙ ap (λ (k : ℕ). firedBy (q .net) (take room spare) (fire houseTable (q .net) k (q .transition) (countsOf (q .entries)) (q .binding))) roomy
+  comes : (gs : List ℕ) (q : FireableAt ws ps gs is os (take size buffer) begins bs) → isEnabled houseTable (q .transition) (countsOf (q .entries)) (q .binding) ≡ true → fireEnd a after ≡ firedBy (q .net) (take room spare) (fire houseTable (q .net) (min (length buffer) (length spare)) (q .transition) (countsOf (q .entries)) (q .binding))
+  comes gs q t = f .fired gs (enabled-at q t) .fired q ∙ ap (λ (k : ℕ). firedBy (q .net) (take room spare) (fire houseTable (q .net) k (q .transition) (countsOf (q .entries)) (q .binding))) roomy
 
-  pub fired-refused : {n p : ℕ} → a ≡ FireRefused n p → IsFiredAt ws ps gs is os begins buffer size spare bs (record { refusal = n; length = size }) buffer
-  fired-refused {n} {p} d = record { fired = λ q. let s = by-refused (q .net) (take room spare) after n p (fire houseTable (q .net) (min (length buffer) (length spare)) (q .transition) (countsOf (q .entries)) (q .binding)) (subst (λ (x : Fired). fireEnd x after ≡ firedBy (q .net) (take room spare) (fire houseTable (q .net) (min (length buffer) (length spare)) (q .transition) (countsOf (q .entries)) (q .binding))) d (comes q)) in subst (Leaves (q .net) buffer size (record { refusal = n; length = size }) buffer) (sym s) (refl, refl) }
+  pub fired-refused : {n p : ℕ} → a ≡ FireRefused n p → IsFiredAt ws ps is os begins buffer size spare bs (record { refusal = n; length = size }) buffer
+  fired-refused {n} {p} d = record { fired = λ gs q t. let s = by-refused (q .net) (take room spare) after n p (fire houseTable (q .net) (min (length buffer) (length spare)) (q .transition) (countsOf (q .entries)) (q .binding)) (subst (λ (x : Fired). fireEnd x after ≡ firedBy (q .net) (take room spare) (fire houseTable (q .net) (min (length buffer) (length spare)) (q .transition) (countsOf (q .entries)) (q .binding))) d (comes gs q t)) in subst (Leaves (q .net) buffer size (record { refusal = n; length = size }) buffer) (sym s) (refl, refl) }
 
   module _ {next : ℕ} (d : a ≡ Written next) where
-    into : (q : FireableAt ws ps gs is os (take size buffer) begins bs) → Fired-into (q .net) (take room spare) after next (fire houseTable (q .net) (min (length buffer) (length spare)) (q .transition) (countsOf (q .entries)) (q .binding))
-    into q = by-written (q .net) (take room spare) after next (fire houseTable (q .net) (min (length buffer) (length spare)) (q .transition) (countsOf (q .entries)) (q .binding)) (subst (λ (x : Fired). fireEnd x after ≡ firedBy (q .net) (take room spare) (fire houseTable (q .net) (min (length buffer) (length spare)) (q .transition) (countsOf (q .entries)) (q .binding))) d (comes q))
+    into : (gs : List ℕ) (q : FireableAt ws ps gs is os (take size buffer) begins bs) → isEnabled houseTable (q .transition) (countsOf (q .entries)) (q .binding) ≡ true → Fired-into (q .net) (take room spare) after next (fire houseTable (q .net) (min (length buffer) (length spare)) (q .transition) (countsOf (q .entries)) (q .binding))
+    into gs q t = by-written (q .net) (take room spare) after next (fire houseTable (q .net) (min (length buffer) (length spare)) (q .transition) (countsOf (q .entries)) (q .binding)) (subst (λ (x : Fired). fireEnd x after ≡ firedBy (q .net) (take room spare) (fire houseTable (q .net) (min (length buffer) (length spare)) (q .transition) (countsOf (q .entries)) (q .binding))) d (comes gs q t))
 
-    pub written-fits : FireableAt ws ps gs is os (take size buffer) begins bs → length after ≡ length (take room spare) → next ≤ room
-    written-fits q l =
-        let i = into q in
+    pub written-fits : Fires ws ps is os begins buffer size bs → length after ≡ length (take room spare) → next ≤ room
+    written-fits F l =
+        let i = into (F .conjuncts) (F .fireable) (F .enabled) in
         let n = i .size in
         let m = ap length (i .front) in
         let k = length-take next after in
@@ -75,8 +77,8 @@ module _ {ws ps gs is os begins : List ℕ} (buffer : List ℕ) (size : ℕ) (sp
         let k = length-append after rest in
         (omega arith, omega (arith, l, r, e, h, k), omega (arith, e, h))
 
-    pub fired-written : {b : List ℕ} (rest : List ℕ) → length after ≡ length (take room spare) → next ≤ room → b ≡ written buffer 0 (slice 0 next (after ++ rest)) → IsFiredAt ws ps gs is os begins buffer size spare bs (record { refusal = 0; length = next }) b
-    fired-written {b} rest l h g = record { fired = λ q. let i = into q in i .leaves (record { refusal = 0; length = next }) buffer size b refl refl (front ∙ i .front) }
+    pub fired-written : {b : List ℕ} (rest : List ℕ) → length after ≡ length (take room spare) → next ≤ room → b ≡ written buffer 0 (slice 0 next (after ++ rest)) → IsFiredAt ws ps is os begins buffer size spare bs (record { refusal = 0; length = next }) b
+    fired-written {b} rest l h g = record { fired = λ gs q t. let i = into gs q t in i .leaves (record { refusal = 0; length = next }) buffer size b refl refl (front ∙ i .front) }
       where
         r : length (take room spare) ≡ min room (length spare)
         r = length-take room spare
@@ -99,11 +101,11 @@ module _ {ws ps : List ℕ} {head : ℕ} {own begins buffer : List ℕ} {size : 
   abbrev v : ℕ
   v = variablesIn head
 
-  pub row-fires : Fires ws ps (take (16 + head / 4096 % 16 - 16) (drop 16 own)) (inputsIn head own) (take (8 + head / 256 % 16 - 8) (drop 8 own)) begins buffer size (take (i * v + v - i * v) (drop (i * v) menu))
-  row-fires = rw (part-is 16 (head / 4096 % 16) own, part-is 8 (head / 256 % 16) own, part-is (i * v) v menu) (Q .fires)
+  pub row-fires : Fires ws ps (inputsIn head own) (take (8 + head / 256 % 16 - 8) (drop 8 own)) begins buffer size (take (i * v + v - i * v) (drop (i * v) menu))
+  row-fires = rw (part-is 8 (head / 256 % 16) own, part-is (i * v) v menu) (Q .fires)
 
-  pub row-fired : {spare : List ℕ} {r : Picked} {b : List ℕ} → IsFiredAt ws ps (take (16 + head / 4096 % 16 - 16) (drop 16 own)) (inputsIn head own) (take (8 + head / 256 % 16 - 8) (drop 8 own)) begins buffer size spare (take (i * v + v - i * v) (drop (i * v) menu)) r b → IsFiredAt ws ps (guardIn head own) (inputsIn head own) (outputsIn head own) begins buffer size spare (row v i menu) r b
-  row-fired f = rw (part-is 16 (head / 4096 % 16) own, part-is 8 (head / 256 % 16) own, part-is (i * v) v menu) at f
+  pub row-fired : {spare : List ℕ} {r : Picked} {b : List ℕ} → IsFiredAt ws ps (inputsIn head own) (take (8 + head / 256 % 16 - 8) (drop 8 own)) begins buffer size spare (take (i * v + v - i * v) (drop (i * v) menu)) r b → IsFiredAt ws ps (inputsIn head own) (outputsIn head own) begins buffer size spare (row v i menu) r b
+  row-fired f = rw (part-is 8 (head / 256 % 16) own, part-is (i * v) v menu) at f
 
 -- ── The menu ──
 

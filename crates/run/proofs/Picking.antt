@@ -23,13 +23,14 @@ use Rattle.semantics.specs.ReadNet.{readTransition}
 use Rattle.semantics.specs.Plan.{acceptNet}
 use Rattle.semantics.specs.Order.{inRanges}
 use Rattle.semantics.specs.Marking.{pickTransition, pickIndex, countsOf}
-use Rattle.semantics.specs.Enabling.{Firing}
+use Rattle.semantics.specs.Enabling.{Firing, Enabled, isEnabled}
 use Rattle.semantics.specs.Run.{menu, Offer, offered, withheld, offer, fireAt, pickFrom, pick}
 use Rattle.semantics.specs.Calls.{Situation, MenuEnd, listedBy, limits}
 use Rattle.semantics.proofs.Tests.{false-true, Every-of}
 use Rattle.semantics.proofs.Members.{none-some, length-at, at-member}
 use Rattle.semantics.proofs.Accepted.{SoundArc, SoundTransition, transition-sound, accepted-read, accepted-sound, accepted-planned}
 use Rattle.semantics.proofs.Offer.{offer-made}
+use Rattle.semantics.proofs.Enabling.{enabled-complete}
 use Rattle.semantics.proofs.Menu.{menu-members}
 use Rattle.net.specs.Skim.{outline}
 use Rattle.net.specs.Places.{placesAt}
@@ -234,8 +235,11 @@ module _ {ws ps transitions parts buffer : List ℕ} {size w : ℕ} (P : Pickabl
           in-menu : lists .bindings ≡ menu houseTable (chosen .0) (countsOf (P .entries))
           in-menu = offer-made houseTable net budget (length menus) (chosen .0) (countsOf (P .entries)) (lists .bindings) (lists .tries) (lists .is) .whole
 
+          listed : (b : List ℤ) → List·Memᴰ b (lists .bindings) → (inRanges (chosen .0 .variables) b ≡ true) × Enabled houseTable (chosen .0) (countsOf (P .entries)) b
+          listed b j = menu-members houseTable (chosen .0) (countsOf (P .entries)) b .0 (subst (List·Memᴰ b) in-menu j)
+
           ranged : (b : List ℤ) → List·Memᴰ b (lists .bindings) → inRanges (chosen .0 .variables) b ≡ true
-          ranged b j = menu-members houseTable (chosen .0) (countsOf (P .entries)) b .0 (subst (List·Memᴰ b) in-menu j) .0
+          ranged b j = listed b j .0
 
           sound : SoundTransition (net .places) (chosen .0)
           sound = transition-sound ws (net .places) (getD transitions (pickTransition w) 0) (chosen .0) (stands .next) reads
@@ -248,6 +252,9 @@ module _ {ws ps transitions parts buffer : List ℕ} {size w : ℕ} (P : Pickabl
 
           b-ranged : inRanges (chosen .0 .variables) (picked .0) ≡ true
           b-ranged = ranged (picked .0) (at-member (lists .bindings) (w % 16384) (picked .0) (picked .1))
+
+          b-enabled : isEnabled houseTable (chosen .0) (countsOf (P .entries)) (picked .0) ≡ true
+          b-enabled = enabled-complete houseTable (chosen .0) (countsOf (P .entries)) (picked .0) (listed (picked .0) (at-member (lists .bindings) (w % 16384) (picked .0) (picked .1)) .1)
 
           b-words : take v′ (drop ((w % 16384) * v′) after) ≡ map valueWord (picked .0)
           b-words = ap (λ (l : List ℕ). take v′ (drop ((w % 16384) * v′) l)) (lists .words) ∙ binding-words (lists .bindings) v′ wide (w % 16384) (picked .0) (picked .1) (drop (length (flatMap (map valueWord) (lists .bindings))) menus)
@@ -288,6 +295,7 @@ module _ {ws ps transitions parts buffer : List ℕ} {size w : ℕ} (P : Pickabl
           few-of n l h = let m = length-take n l in omega arith
 
           pub pick-fires : FiresRow ws ps head own begins buffer size after (w % 16384)
+          unfolding fireable
           pick-fires = record {
             few = parted .few;
             long = own-long;
@@ -298,10 +306,12 @@ module _ {ws ps transitions parts buffer : List ℕ} {size w : ℕ} (P : Pickabl
               few-inputs = few-of (head / 16 % 16) own (parted .few .inputs);
               few-outputs = few-of (head / 256 % 16) (drop 8 own) (parted .few .outputs);
               inside = P .inside;
+              conjuncts = guardIn head own;
               fireable = fireable;
+              enabled = b-enabled;
             };
           }
 
-          pub pick-fired : {r : Picked} {b : List ℕ} → IsFiredAt ws ps (guardIn head own) (inputsIn head own) (outputsIn head own) begins buffer size spare (row v′ (w % 16384) after) r b → IsPicked ws budget buffer size spare menus w r b
+          pub pick-fired : {r : Picked} {b : List ℕ} → IsFiredAt ws ps (inputsIn head own) (outputsIn head own) begins buffer size spare (row v′ (w % 16384) after) r b → IsPicked ws budget buffer size spare menus w r b
           unfolding fireable
-          pick-fired f = leaves-by (picks-at (ap (getElem? (lists .bindings)) (sym index-is) ∙ picked .1)) (f .fired fireable)
+          pick-fired f = leaves-by (picks-at (ap (getElem? (lists .bindings)) (sym index-is) ∙ picked .1)) (f .fired (guardIn head own) fireable b-enabled)

@@ -1,6 +1,7 @@
 -- What a pick leaves: the marking after it at the front of the buffer, or the marking before it and the refusal.
 -- Rests on semantics/specs/Run, firing/specs/Fire, Start and Parts.
 use mathlib.Core.Path.{_≡_}
+use mathlib.Core.Bool.{true}
 use mathlib.Core.List.{List}
 use Prim.Native.Nat.{ℕ, _+_, _*_, min, _≤_, _<_}
 use lib.ListN.{length, take, drop}
@@ -9,7 +10,7 @@ use Rattle.semantics.specs.Expression.{houseTable}
 use Rattle.semantics.specs.Net.{Net}
 use Rattle.semantics.specs.Plan.{acceptNet}
 use Rattle.semantics.specs.Marking.{Entry, pickTransition, countsOf, markingWords}
-use Rattle.semantics.specs.Enabling.{Firing, moved, stopped}
+use Rattle.semantics.specs.Enabling.{Firing, moved, stopped, isEnabled}
 use Rattle.semantics.specs.Run.{fire, pick}
 use Rattle.semantics.specs.Calls.{limits}
 use Rattle.net.specs.Places.{PlacesFit}
@@ -26,28 +27,31 @@ abbrev pub Leaves : Net → List ℕ → ℕ → Picked → List ℕ → Firing 
 Leaves net buffer length′ r after (moved m) = (r .refusal ≡ 0) × (r .length ≡ length (markingWords net m)) × (take (r .length) after ≡ markingWords net m)
 Leaves net buffer length′ r after (stopped n) = (r .refusal ≡ n) × (take length′ after ≡ take length′ buffer)
 
--- a binding of a transition, whose conjuncts and arcs stand at these positions, may be fired in the marking at the front of a buffer
-pub record Fires (ws ps gs is os begins buffer : List ℕ) (size : ℕ) (bs : List ℕ) : Type 0 where
+-- a binding of a transition, whose arcs stand at these positions, is enabled in the marking at the front of a buffer
+pub record Fires (ws ps is os begins buffer : List ℕ) (size : ℕ) (bs : List ℕ) : Type 0 where
   pub fits : PlacesFit ws ps
   pub beginnings : length begins ≡ 65
   pub few-inputs : length is ≤ 8
   pub few-outputs : length os ≤ 8
   pub inside : size ≤ length buffer
-  pub fireable : FireableAt ws ps gs is os (take size buffer) begins bs
+  pub conjuncts : List ℕ
+  pub fireable : FireableAt ws ps conjuncts is os (take size buffer) begins bs
+  pub enabled : isEnabled houseTable (fireable .transition) (countsOf (fireable .entries)) (fireable .binding) ≡ true
 
 -- the words of the binding at an index of a menu, with v variables
 abbrev pub row : ℕ → ℕ → List ℕ → List ℕ
 row v index menu = take v (drop (index * v) menu)
 
--- the binding at an index of a menu may be fired, by the TRANSITION word and the 32 positions of its transition
+-- the binding at an index of a menu is enabled, by the TRANSITION word and the 32 positions of its transition
 pub record FiresRow (ws ps : List ℕ) (head : ℕ) (own begins buffer : List ℕ) (size : ℕ) (menu : List ℕ) (index : ℕ) : Type 0 where
   pub few : FewParts head
   pub long : length own ≡ 32
   pub within : index * variablesIn head + variablesIn head ≤ length menu
-  pub fires : Fires ws ps (guardIn head own) (inputsIn head own) (outputsIn head own) begins buffer size (row (variablesIn head) index menu)
+  pub fires : Fires ws ps (inputsIn head own) (outputsIn head own) begins buffer size (row (variablesIn head) index menu)
 
-pub record IsFiredAt (ws ps gs is os begins buffer : List ℕ) (size : ℕ) (spare bs : List ℕ) (r : Picked) (after : List ℕ) : Type 0 where
-  pub fired : (q : FireableAt ws ps gs is os (take size buffer) begins bs) → Leaves (q .net) buffer size r after (fire houseTable (q .net) (min (length buffer) (length spare)) (q .transition) (countsOf (q .entries)) (q .binding))
+-- what is left where an enabled binding is fired, wherever its conjuncts stand
+pub record IsFiredAt (ws ps is os begins buffer : List ℕ) (size : ℕ) (spare bs : List ℕ) (r : Picked) (after : List ℕ) : Type 0 where
+  pub fired : (gs : List ℕ) (q : FireableAt ws ps gs is os (take size buffer) begins bs) → isEnabled houseTable (q .transition) (countsOf (q .entries)) (q .binding) ≡ true → Leaves (q .net) buffer size r after (fire houseTable (q .net) (min (length buffer) (length spare)) (q .transition) (countsOf (q .entries)) (q .binding))
 
 -- the menu of the transition at a position may be listed, by its TRANSITION word and its 32 positions
 pub record Lists (ws ps : List ℕ) (position head : ℕ) (own ms begins : List ℕ) : Type 0 where

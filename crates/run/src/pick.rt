@@ -1,12 +1,12 @@
 // One pick: the menu of its transition, the binding at its index, and the marking after it.
-use firing::fire::fire_arcs;
+use firing::fire::fire_enabled;
 use marking::begins::index_marking;
 use patch::words::copy_words;
 use search::menu::list_bindings;
 use semantics::Fired;
 use semantics::Listed;
 use word::size::at_most;
-ghost use Rattle.run.specs.Parts.{variablesIn, inputsIn, outputsIn, guardIn};
+ghost use Rattle.run.specs.Parts.{variablesIn, inputsIn, outputsIn};
 ghost use Rattle.search.specs.Menu.{IsListed};
 ghost use Rattle.run.specs.Pick.{Pickable, IsPicked, Lists, Fires, FiresRow, row, IsFiredAt};
 
@@ -16,11 +16,10 @@ pub struct Picked {
     pub length: usize,
 }
 
-// Fires a binding into the spare, and copies the new marking back. The conjuncts and arcs of the transition stand at these positions.
+// Fires an enabled binding into the spare, and copies the new marking back. The arcs of the transition stand at these positions.
 fn fire_at(
     net: &[u32],
     places: &[usize],
-    conjuncts: &[usize],
     inputs: &[usize],
     outputs: &[usize],
     begins: &[usize],
@@ -29,14 +28,13 @@ fn fire_at(
     spare: &mut [u32],
     binding: &[u32],
 ) -> Picked
-    requires { ⌜ Fires (now net) (now places) (now conjuncts) (now inputs) (now outputs) (now begins) (now buffer) length (now binding) ⌝ }
-    ensures { λ r. ⌜ IsFiredAt (now (net .entry)) (now (places .entry)) (now (conjuncts .entry)) (now (inputs .entry)) (now (outputs .entry)) (now (begins .entry)) (now (buffer .entry)) length (now (spare .entry)) (now (binding .entry)) r (now (buffer .exit)) ⌝ }
+    requires { ⌜ Fires (now net) (now places) (now inputs) (now outputs) (now begins) (now buffer) length (now binding) ⌝ }
+    ensures { λ r. ⌜ IsFiredAt (now (net .entry)) (now (places .entry)) (now (inputs .entry)) (now (outputs .entry)) (now (begins .entry)) (now (buffer .entry)) length (now (spare .entry)) (now (binding .entry)) r (now (buffer .exit)) ⌝ }
 {
     let room = at_most(buffer.len(), spare.len());
-    match fire_arcs(
+    match fire_enabled(
         net,
         places,
-        conjuncts,
         inputs,
         outputs,
         &buffer[..length],
@@ -72,17 +70,15 @@ fn fire_row(
     index: usize,
 ) -> Picked
     requires { ⌜ FiresRow (now net) (now places) head (now own) (now begins) (now buffer) length (now menu) index ⌝ }
-    ensures { λ r. ⌜ IsFiredAt (now (net .entry)) (now (places .entry)) (guardIn head (now (own .entry))) (inputsIn head (now (own .entry))) (outputsIn head (now (own .entry))) (now (begins .entry)) (now (buffer .entry)) length (now (spare .entry)) (row (variablesIn head) index (now (menu .entry))) r (now (buffer .exit)) ⌝ }
+    ensures { λ r. ⌜ IsFiredAt (now (net .entry)) (now (places .entry)) (inputsIn head (now (own .entry))) (outputsIn head (now (own .entry))) (now (begins .entry)) (now (buffer .entry)) length (now (spare .entry)) (row (variablesIn head) index (now (menu .entry))) r (now (buffer .exit)) ⌝ }
 {
     let variables = (head % 16) as usize;
     let inputs = (head / 16 % 16) as usize;
     let outputs = (head / 256 % 16) as usize;
-    let conjuncts = (head / 4096 % 16) as usize;
     let at = index * variables;
     fire_at(
         net,
         places,
-        &own[16..16 + conjuncts],
         &own[..inputs],
         &own[8..8 + outputs],
         begins,

@@ -4,30 +4,33 @@ use native.Mathlib.Omega.{arith}
 use borrow.Author.Needs.{needs}
 use lib.ListN.{length}
 use lib.Seq.{length-take-le}
+use Rattle.firing.proofs.Firing.{enabled-at}
 use Rattle.run.proofs.Firing.{fired-refused, written-fits, copy-fits, fired-written}
 use Rattle.run.proofs.pick.fire_at.Statement.{statement}
 use Rattle.run.proofs.pick.fire_at.Tie as tie
 
-marking-share : tie.Need-slice-reshare-prefix-fire-arcs
-marking-share c = (c .before .before .before .before .before .before .before .before .before .before .pre) .inside
+marking-share : tie.Need-slice-reshare-prefix-fire-enabled
+marking-share c = (c .before .before .before .before .before .before .before .before .before .pre) .inside
 
-marking-slice : tie.Need-slice-aggregate-fire-arcs
-marking-slice c = sym (length-take-le _ _ ((c .before .before .before .before .before .before .before .before .before .before .before .pre) .inside))
+marking-slice : tie.Need-slice-aggregate-fire-enabled
+marking-slice c = sym (length-take-le _ _ ((c .before .before .before .before .before .before .before .before .before .before .pre) .inside))
 
-spare-slice : tie.Need-slice-aggregate-fire-arcs-2
+spare-slice : tie.Need-slice-aggregate-fire-enabled-2
 spare-slice c = let e = (c .before .before .at-most) .ensures in sym (length-take-le _ _ (omega arith))
 
-fire-arcs-requires : tie.Need-fire-arcs-requires
-fire-arcs-requires c κs = ((c .before .before .before .before .before .before .before .before .before .before .before .before .pre) .fits, ((c .before .before .before .before .before .before .before .before .before .before .before .before .pre) .beginnings, (((c .before .before .before .before .before .before .before .before .before .before .before .before .pre) .few-inputs, (c .before .before .before .before .before .before .before .before .before .before .before .before .pre) .few-outputs), (c .before .before .before .before .before .before .before .before .before .before .before .before .pre) .fireable)))
+fire-enabled-requires : tie.Need-fire-enabled-requires
+fire-enabled-requires c κs =
+    let pre = c .before .before .before .before .before .before .before .before .before .before .before .pre in
+    (pre .fits, (pre .beginnings, ((pre .few-inputs, pre .few-outputs), record { conjuncts = pre .conjuncts; fireable = pre .fireable; enabled = enabled-at (pre .fireable) (pre .enabled) })))
 
 copy-words-requires : tie.Need-copy-words-requires
-copy-words-requires c κs = copy-fits ((c .before .before .before .before .before .before .before .before .before .before .before .before .before .before .before .before .before .before .before .before .args) .buffer .now) ((c .before .before .before .before .before .before .before .before .before .before .before .before .before .before .before .before .before .before .before .before .args) .length) ((c .before .before .before .before .before .before .before .before .before .before .before .before .before .before .before .before .before .before .before .before .args) .spare .now) ((c .before .before .before .before .before .before .before .before .before .before .at-most) .ensures) ((c .before .before .before .before .before .before .before .fire-arcs) .ensures) ((c .before .before .before .next) .given .1) _ ((c .before .before .before .before .before .before .before .fire-arcs) .kept .1 .1 .1 .1 .1 .1 .1 .1 .0) (written-fits ((c .before .before .before .before .before .before .before .before .before .before .before .before .before .before .before .before .before .before .before .before .args) .buffer .now) ((c .before .before .before .before .before .before .before .before .before .before .before .before .before .before .before .before .before .before .before .before .args) .length) ((c .before .before .before .before .before .before .before .before .before .before .before .before .before .before .before .before .before .before .before .before .args) .spare .now) ((c .before .before .before .before .before .before .before .before .before .before .at-most) .ensures) ((c .before .before .before .before .before .before .before .fire-arcs) .ensures) ((c .before .before .before .next) .given .1) ((c .before .before .before .before .before .before .before .before .before .before .before .before .before .before .before .before .before .before .before .before .pre) .fireable) ((c .before .before .before .before .before .before .before .fire-arcs) .kept .1 .1 .1 .1 .1 .1 .1 .1 .0))
+copy-words-requires c κs = copy-fits ((c .before .before .before .before .before .before .before .before .before .before .before .before .before .before .before .before .before .before .before .args) .buffer .now) ((c .before .before .before .before .before .before .before .before .before .before .before .before .before .before .before .before .before .before .before .args) .length) ((c .before .before .before .before .before .before .before .before .before .before .before .before .before .before .before .before .before .before .before .args) .spare .now) ((c .before .before .before .before .before .before .before .before .before .before .at-most) .ensures) ((c .before .before .before .before .before .before .before .fire-enabled) .ensures) ((c .before .before .before .next) .given .1) _ ((c .before .before .before .before .before .before .before .fire-enabled) .kept .1 .1 .1 .1 .1 .1 .1 .0) (written-fits ((c .before .before .before .before .before .before .before .before .before .before .before .before .before .before .before .before .before .before .before .args) .buffer .now) ((c .before .before .before .before .before .before .before .before .before .before .before .before .before .before .before .before .before .before .before .args) .length) ((c .before .before .before .before .before .before .before .before .before .before .before .before .before .before .before .before .before .before .before .args) .spare .now) ((c .before .before .before .before .before .before .before .before .before .before .at-most) .ensures) ((c .before .before .before .before .before .before .before .fire-enabled) .ensures) ((c .before .before .before .next) .given .1) ((c .before .before .before .before .before .before .before .before .before .before .before .before .before .before .before .before .before .before .before .pre)) ((c .before .before .before .before .before .before .before .fire-enabled) .kept .1 .1 .1 .1 .1 .1 .1 .0))
 
 returns : tie.Need-returns
-returns c = fired-refused ((c .before .before .before .before .before .before .before .before .before .before .before .before .before .before .before .before .before .before .args) .buffer .now) ((c .before .before .before .before .before .before .before .before .before .before .before .before .before .before .before .before .before .before .args) .length) ((c .before .before .before .before .before .before .before .before .before .before .before .before .before .before .before .before .before .before .args) .spare .now) ((c .before .before .before .before .before .before .before .before .at-most) .ensures) ((c .before .before .before .before .before .fire-arcs) .ensures) ((c .before .n) .given .1)
+returns c = fired-refused ((c .before .before .before .before .before .before .before .before .before .before .before .before .before .before .before .before .before .args) .buffer .now) ((c .before .before .before .before .before .before .before .before .before .before .before .before .before .before .before .before .before .args) .length) ((c .before .before .before .before .before .before .before .before .before .before .before .before .before .before .before .before .before .args) .spare .now) ((c .before .before .before .before .before .before .before .before .at-most) .ensures) ((c .before .before .before .before .before .fire-enabled) .ensures) ((c .before .n) .given .1)
 
 returns-2 : tie.Need-returns-2
-returns-2 c = fired-written ((c .before .before .before .before .before .before .before .before .before .before .before .before .before .before .before .before .before .before .before .before .before .before .before .args) .buffer .now) ((c .before .before .before .before .before .before .before .before .before .before .before .before .before .before .before .before .before .before .before .before .before .before .before .args) .length) ((c .before .before .before .before .before .before .before .before .before .before .before .before .before .before .before .before .before .before .before .before .before .before .before .args) .spare .now) ((c .before .before .before .before .before .before .before .before .before .before .before .before .before .at-most) .ensures) ((c .before .before .before .before .before .before .before .before .before .before .fire-arcs) .ensures) ((c .before .before .before .before .before .before .next) .given .1) _ ((c .before .before .before .before .before .before .before .before .before .before .fire-arcs) .kept .1 .1 .1 .1 .1 .1 .1 .1 .0) (written-fits ((c .before .before .before .before .before .before .before .before .before .before .before .before .before .before .before .before .before .before .before .before .before .before .before .args) .buffer .now) ((c .before .before .before .before .before .before .before .before .before .before .before .before .before .before .before .before .before .before .before .before .before .before .before .args) .length) ((c .before .before .before .before .before .before .before .before .before .before .before .before .before .before .before .before .before .before .before .before .before .before .before .args) .spare .now) ((c .before .before .before .before .before .before .before .before .before .before .before .before .before .at-most) .ensures) ((c .before .before .before .before .before .before .before .before .before .before .fire-arcs) .ensures) ((c .before .before .before .before .before .before .next) .given .1) ((c .before .before .before .before .before .before .before .before .before .before .before .before .before .before .before .before .before .before .before .before .before .before .before .pre) .fireable) ((c .before .before .before .before .before .before .before .before .before .before .fire-arcs) .kept .1 .1 .1 .1 .1 .1 .1 .1 .0)) ((c .before .before .copy-words) .ensures)
+returns-2 c = fired-written ((c .before .before .before .before .before .before .before .before .before .before .before .before .before .before .before .before .before .before .before .before .before .before .args) .buffer .now) ((c .before .before .before .before .before .before .before .before .before .before .before .before .before .before .before .before .before .before .before .before .before .before .args) .length) ((c .before .before .before .before .before .before .before .before .before .before .before .before .before .before .before .before .before .before .before .before .before .before .args) .spare .now) ((c .before .before .before .before .before .before .before .before .before .before .before .before .before .at-most) .ensures) ((c .before .before .before .before .before .before .before .before .before .before .fire-enabled) .ensures) ((c .before .before .before .before .before .before .next) .given .1) _ ((c .before .before .before .before .before .before .before .before .before .before .fire-enabled) .kept .1 .1 .1 .1 .1 .1 .1 .0) (written-fits ((c .before .before .before .before .before .before .before .before .before .before .before .before .before .before .before .before .before .before .before .before .before .before .args) .buffer .now) ((c .before .before .before .before .before .before .before .before .before .before .before .before .before .before .before .before .before .before .before .before .before .before .args) .length) ((c .before .before .before .before .before .before .before .before .before .before .before .before .before .before .before .before .before .before .before .before .before .before .args) .spare .now) ((c .before .before .before .before .before .before .before .before .before .before .before .before .before .at-most) .ensures) ((c .before .before .before .before .before .before .before .before .before .before .fire-enabled) .ensures) ((c .before .before .before .before .before .before .next) .given .1) ((c .before .before .before .before .before .before .before .before .before .before .before .before .before .before .before .before .before .before .before .before .before .before .pre)) ((c .before .before .before .before .before .before .before .before .before .before .fire-enabled) .kept .1 .1 .1 .1 .1 .1 .1 .0)) ((c .before .before .copy-words) .ensures)
 
 pub fire-at-spec : {M : Type 1} → statement M
 fire-at-spec =
@@ -38,7 +41,7 @@ fire-at-spec =
     marking-slice
     (λ c. search needs)
     spare-slice
-    fire-arcs-requires
+    fire-enabled-requires
     (λ c. search needs)
     (λ c. search needs)
     copy-words-requires

@@ -1,13 +1,13 @@
 -- `search::walk::walk` meets its contract: at the end of the plan by `Leafing`, before it the loop keeps `Trying` over the tries of the element. The
 -- measure is the number of elements left.
-use mathlib.Core.Path.{_≡_, refl, sym, ap, _∙_, subst}
+use mathlib.Core.Path.{_≡_}
 use mathlib.Core.Logic.{⊎-elim}
 use Prim.Native.Nat.{ℕ, _+_, _-_, _<_}
 use native.Mathlib.Omega.{arith}
 use borrow.Author.Needs.{needs}
 use borrow.Fn.Kinds.{In}
 use borrow.Fn.PlainCycle.{Measures, is, falls, and}
-use lib.ListN.{length, drop, take}
+use lib.ListN.{length, drop}
 use lib.Seq.{length-take-le}
 use Rattle.semantics.specs.Expression.{houseTable}
 use Rattle.semantics.specs.Tries.{tries}
@@ -18,7 +18,7 @@ use Rattle.search.specs.Scene.{sceneOf}
 use Rattle.search.specs.Search.{costFrom, rowsFrom}
 use Rattle.search.proofs.Trying.{Trying, trying-start, ended-all, ended-spent, trying-skip, trying-same, ended-stop, trying-turn}
 use Rattle.search.proofs.Worlds.{few-variables, few-inputs, few-elements, ranges-fit, next-element}
-use Rattle.search.proofs.Walking.{ended-same, leaf-values, walked-leaf, Stepping, stepping, try-on, try-off}
+use Rattle.search.proofs.Walking.{ended-same, leaf-values, walked-leaf, stepping, try-on, try-off}
 use Rattle.search.proofs.walk.walk.Reads as walk
 use Rattle.search.proofs.walk.walk.Kinds as walk-kinds
 use Rattle.search.proofs.walk.+walk.Lts-walk as walk-lts
