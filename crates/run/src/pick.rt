@@ -89,7 +89,7 @@ fn fire_row(
     )
 }
 
-// The menu of the transition at a position, whose parts stand at these 32 positions by its word.
+// The menu of the transition at a position with a limit to its tries; its parts stand at these 32 positions, by its word.
 fn list_menu(
     net: &[u32],
     places: &[usize],
@@ -98,11 +98,11 @@ fn list_menu(
     own: &[usize],
     marking: &[u32],
     begins: &[usize],
-    budget: u32,
+    limit: u32,
     menu: &mut [u32],
 ) -> Listed
     requires { ⌜ Lists (now net) (now places) position head (now own) (now marking) (now begins) ⌝ }
-    ensures { λ r. ⌜ IsListed (now (net .entry)) position (now (marking .entry)) budget (now (menu .entry)) r (now (menu .exit)) ⌝ }
+    ensures { λ r. ⌜ IsListed (now (net .entry)) position (now (marking .entry)) limit (now (menu .entry)) r (now (menu .exit)) ⌝ }
 {
     let inputs = (head / 16 % 16) as usize;
     let conjuncts = (head / 4096 % 16) as usize;
@@ -117,7 +117,7 @@ fn list_menu(
         &own[24..24 + elements],
         marking,
         begins,
-        budget,
+        limit,
         menu,
     )
 }
