@@ -5,7 +5,7 @@ use Prim.Native.Nat.{ℕ, zero, suc, min, _≤_, _<_}
 use mathlib.Core.List.{List, [], _∷_, map}
 use mathlib.Core.Option.{some}
 use native.Mathlib.Omega.{arith}
-use lib.ListN.{length, getD, getElem?, take, length-map, length-take}
+use lib.ListN.{length, getD, getElem?, take}
 use lib.Seq.{getD-take}
 use Rattle.semantics.specs.Refusal.{noTransition}
 use Rattle.semantics.specs.Reading.{Reading, read, refused}
@@ -14,7 +14,6 @@ use Rattle.semantics.specs.ReadNet.{readNet, readTransition}
 use Rattle.semantics.specs.Plan.{acceptNet}
 use Rattle.semantics.specs.Marking.{Entry, readMarking}
 use Rattle.semantics.specs.Calls.{Situation as Situated, situation}
-use Rattle.semantics.proofs.Accepted.{accepted-read}
 use Rattle.semantics.proofs.Tests.{false-true}
 use Rattle.semantics.proofs.Members.{none-some, length-at, past-elem, every-elem}
 use Rattle.expression.specs.declared.read.Skipped.{Skipped}
@@ -22,15 +21,15 @@ use Rattle.expression.specs.declared.read.Skipped.the-variants.{Next, Refused}
 use Rattle.expression.specs.Skip.{forget, skipped}
 use Rattle.net.specs.declared.index.NetIndex.{NetIndex}
 use Rattle.net.specs.declared.index.TransitionIndex.{TransitionIndex}
-use Rattle.net.specs.Skim.{changed, netOutline, width, skimNet, skimTransition}
+use Rattle.net.specs.Skim.{changed, netOutline, width, skimTransition}
 use Rattle.net.specs.Index.{netRead, transitionRead}
 use Rattle.net.specs.Places.{placesAt, PlacesFit}
-use Rattle.net.proofs.Skimming.{skim-net}
 use Rattle.net.proofs.Located.{At, net-transitions}
-use Rattle.net.proofs.Placed.{index-widths, index-transitions, index-placed, index-fits, index-outline}
+use Rattle.net.proofs.Placed.{index-outline}
 use Rattle.accept.specs.declared.accepted.Extent.{Extent}
 use Rattle.accept.specs.Front.{IsExtent}
-use Rattle.accept.proofs.Checking.{take-least, to-all, index-read, index-refused}
+use Rattle.accept.proofs.Checking.{to-all, index-refused}
+use Rattle.accept.proofs.Tables as tables
 use Rattle.marking.specs.declared.index.MarkingIndex.{MarkingIndex}
 use Rattle.marking.specs.Marked.{markingRead, IsMarking}
 use Rattle.occurrence.specs.declared.situation.Situation.{Situation}
@@ -38,12 +37,12 @@ use Rattle.occurrence.specs.Situation.{Prepared, IsSituation}
 
 -- ── A transition by its number ──
 
-position-elem : (ts : List Transition) (i : ℕ) (t : Transition) → getElem? ts i ≡ some t → getD (map (λ (t : Transition). t .position) ts) i 0 ≡ t .position
+pub position-elem : (ts : List Transition) (i : ℕ) (t : Transition) → getElem? ts i ≡ some t → getD (map (λ (t : Transition). t .position) ts) i 0 ≡ t .position
 position-elem [] i t h = none-some h
 position-elem (x ∷ xs) zero t h = let q : x ≡ t = cc in ap (λ (t : Transition). t .position) q
 position-elem (x ∷ xs) (suc i) t h = position-elem xs i t h
 
-next-refused : {X : Type 0} {next n p : ℕ} → Next next ≡ Refused n p → X
+pub next-refused : {X : Type 0} {next n p : ℕ} → Next next ≡ Refused n p → X
 next-refused e = false-true (cc)
 
 -- a reading that the code has passed over, told by its end
@@ -73,29 +72,23 @@ module _ (ws ms : List ℕ) (t : ℕ) (r : Extent) {places widths transitions : 
   }
 
   module _ {next : ℕ} (e : i .end ≡ Next next) (full : length (i .«places_at») ≡ 64) (wide : length (i .widths) ≡ 64) (long : length (i .«transitions_at») ≡ 64) {q : ℕ} (less : q ≡ min (i .transitions) 64) where
-    net : Net
-    net = index-read (acceptNet ws) i x e .0
+    abbrev net : Net
+    net = tables.net ws i x e
 
     is-accepted : acceptNet ws ≡ read net next
-    unfolding net
-    is-accepted = index-read (acceptNet ws) i x e .1
+    is-accepted = tables.is-accepted ws i x e
 
     reads : readNet ws 0 ≡ read net next
-    reads = accepted-read ws net next is-accepted
-
-    skims : netRead i ≡ skimNet ws 0
-    skims = x ∙ ap (changed netOutline) (is-accepted ∙ sym reads) ∙ skim-net ws 0
+    reads = tables.reads ws i x e
 
     positions : map (λ (t : Transition). t .position) (net .transitions) ≡ take q (i .«transitions_at»)
-    positions = sym (index-transitions ws i skims full wide net next reads) ∙ sym (take-least (i .«transitions_at») (i .transitions) 64 q long less)
+    positions = sym (tables.stand ws i x e full wide long less)
 
     many : length (net .transitions) ≡ q
-    many =
-        let l = sym (length-map (net .transitions) (λ (t : Transition). t .position)) ∙ ap length positions ∙ length-take q (i .«transitions_at») in
-        omega arith
+    many = tables.many ws i x e full wide long less
 
     pub places-fit : {p : ℕ} → p ≡ min (i .places) 64 → PlacesFit ws (take p (i .«places_at»))
-    places-fit {p} few = rw (take-least (i .«places_at») (i .places) 64 p full few) (index-fits ws i skims full wide net next reads)
+    places-fit few = tables.places-fit ws i x e full wide few
 
     pub transition-unknown : (s : Situation) → q ≤ t → s .end ≡ Refused noTransition 0 → IsSituation ws t ms s
     unfolding situation
@@ -117,14 +110,11 @@ module _ (ws ms : List ℕ) (t : ℕ) (r : Extent) {places widths transitions : 
       reads-transition : readTransition ws (net .places) (getD (i .«transitions_at») t 0) ≡ read (known .0) (stands .next)
       reads-transition = rw at-position (stands .reads)
 
-      places-same : take p (i .«places_at») ≡ take (i .places) (i .«places_at»)
-      places-same = take-least (i .«places_at») (i .places) 64 p full few
-
       placed : net .places ≡ placesAt ws (take p (i .«places_at»))
-      placed = rw places-same (index-placed ws i skims full wide net next reads)
+      placed = tables.placed ws i x e full wide few
 
       widths-same : take p (i .widths) ≡ map width (net .places)
-      widths-same = take-least (i .widths) (i .places) 64 p wide few ∙ index-widths ws i skims full wide net next reads
+      widths-same = tables.widths-are ws i x e full wide few
 
       pub told : (s : Situation) → s .end ≡ m .end → s .places ≡ p → s .«places_at» ≡ i .«places_at» → s .position ≡ getD (i .«transitions_at») t 0 → s .transition ≡ j → s .begins ≡ m .begins → IsSituation ws t ms s
       unfolding situation readMarking markingRead
@@ -151,7 +141,7 @@ module _ (ws ms : List ℕ) (t : ℕ) (r : Extent) {places widths transitions : 
                 named = known .1;
                 few = omega (arith, few, b);
                 placed = rw (b, c) placed;
-                fits = rw (b, c, places-same) (index-fits ws i skims full wide net next reads);
+                fits = rw (b, c) (places-fit few);
                 there = rw d reads-transition;
                 outlines = rw f (index-outline ws (net .places) (getD (i .«transitions_at») t 0) j (rw widths-same at y) (known .0) (stands .next) reads-transition .0);
                 marked = r;

@@ -1,10 +1,10 @@
 -- The rules of keeping the parts of transitions: what read_parts tells is the outline of the transition that semantics reads, its numbers are those of the
 -- TRANSITION word, and what was written for one transition stays while the next is written.
-use mathlib.Core.Path.{_≡_, refl, sym, ap, _∙_, subst}
+use mathlib.Core.Path.{_≡_, sym, ap, _∙_, subst}
 use mathlib.Core.List.{List, [], _∷_, _++_, map, append-assoc}
 use mathlib.Core.Logic.{_⊎_, inl, inr}
 use mathlib.Core.Bool.{true, false}
-use mathlib.Core.Option.{none, some}
+use mathlib.Core.Option.{some}
 use Prim.Native.Nat.{ℕ, zero, suc, _+_, _*_, _/_, _%_, _≤_, _<_}
 use native.Mathlib.Numerals.{add-one}
 use native.Mathlib.Omega.{arith}
@@ -13,13 +13,13 @@ use lib.Dec.{ltb}
 use lib.ListN.{length, getD, getElem?, set, take, drop, length-append, length-map, length-take}
 use lib.Seq.{length-take-le, take-nil, take-all, take-at, take-take, take-append-le, drop-at, paste, paste-suc}
 use Rattle.semantics.specs.Word.{bits}
-use Rattle.semantics.specs.Lists.{Every}
 use Rattle.semantics.specs.Reading.{read, several}
 use Rattle.semantics.specs.Net.{Place, Arc, Conjunct, Element, Transition, Net}
 use Rattle.semantics.specs.ReadNet.{readRange, readArc, readConjunct, readElement, transitionWord, readTransition}
 use Rattle.semantics.specs.Plan.{acceptNet}
 use Rattle.semantics.proofs.Tests.{either}
-use Rattle.semantics.proofs.Members.{none-some}
+use Rattle.semantics.proofs.Members.{none-some, past-elem, every-elem}
+use Rattle.occurrence.proofs.Situations.{position-elem}
 use Rattle.semantics.proofs.Readers.{Gives, gives, given, then-gives, as-read}
 use Rattle.semantics.proofs.Accepted.{transition-sound, accepted-read, accepted-sound}
 use Rattle.net.specs.declared.index.Parts.{Parts}
@@ -174,21 +174,6 @@ module _ (d : List ℕ) (at : ℕ) (a b c e : List ℕ) (la : length a ≡ 8) (l
 
 -- ── A transition by its number ──
 
-pub past-end : {A : Type 0} (l : List A) (i : ℕ) → length l ≤ i → getElem? l i ≡ none
-past-end [] i h = refl
-past-end (x ∷ xs) zero h = absurd (omega arith)
-past-end (x ∷ xs) (suc i) h = past-end xs i (omega arith)
-
-pub position-at : (ts : List Transition) (i : ℕ) (t : Transition) → getElem? ts i ≡ some t → getD (map (λ (t : Transition). t .position) ts) i 0 ≡ t .position
-position-at [] i t h = none-some h
-position-at (x ∷ xs) zero t h = let q : x ≡ t = cc in ap (λ (t : Transition). t .position) q
-position-at (x ∷ xs) (suc i) t h = position-at xs i t h
-
-pub member-has : {A : Type 0} (P : A → Type 0) (l : List A) (i : ℕ) (a : A) → Every P l → getElem? l i ≡ some a → P a
-member-has P [] i a e h = none-some h
-member-has P (x ∷ xs) zero a e h = let q : x ≡ a = cc in subst P q (e .0)
-member-has P (x ∷ xs) (suc i) a e h = member-has P xs i a (e .1) h
-
 take-drop : (k n : ℕ) (x : List ℕ) → take n (drop k x) ≡ drop k (take (k + n) x)
 take-drop zero n x = let z : 0 + n ≡ n = omega arith in rw z
 take-drop (suc k) n [] = let z : suc k + n ≡ suc (k + n) = omega arith in rw (z, take-nil)
@@ -225,14 +210,14 @@ module _ {ws widths transitions : List ℕ} (N : NetRead ws widths transitions) 
       where
         by : (j : ℕ) (t : Transition) → getElem? (net .transitions) j ≡ some t → (ltb j i ≡ true) ⊎ (ltb j i ≡ false) → Parted (getD ws (t .position) 0) (take 32 (drop (j * 32) table)) (outline t)
         by j t e (inl u) = K .each j t (ltb-true j i u) e
-        by j t e (inr u) = none-some (sym (past-end (net .transitions) j (omega (arith, ltb-false j i u, as-many))) ∙ e)
+        by j t e (inr u) = none-some (sym (past-elem (net .transitions) j (omega (arith, ltb-false j i u, as-many))) ∙ e)
 
     module _ (h : i < length transitions) where
       pub kept-room : i * 32 + 32 ≤ length table
       kept-room = omega (arith, as-many, few, K .long)
 
       stands : (t : Transition) → getElem? (net .transitions) i ≡ some t → At (readTransition ws (net .places)) (λ (t : Transition). t .position) t
-      stands t e = member-has (At (readTransition ws (net .places)) (λ (t : Transition). t .position)) (net .transitions) i t (net-transitions ws 0 net (N .whole) (accepted-read ws net (N .whole) (N .accepted))) e
+      stands t e = every-elem (At (readTransition ws (net .places)) (λ (t : Transition). t .position)) (net .transitions) i t (net-transitions ws 0 net (N .whole) (accepted-read ws net (N .whole) (N .accepted))) e
 
       pub kept-turn : {after : List ℕ} → length after ≡ length table → KeepsParts ws widths (getD transitions i 0) table (i * 32) after → KeptTo ws net after (i + 1)
       kept-turn {after} l P = record { long = l ∙ K .long; each = λ j t k e. by j t k e (either (ltb j i)) }
@@ -245,5 +230,5 @@ module _ {ws widths transitions : List ℕ} (N : NetRead ws widths transitions) 
               let g = ltb-false j i u in
               let z : j ≡ i = omega arith in
               let f : getElem? (net .transitions) i ≡ some t = ap (getElem? (net .transitions)) (sym z) ∙ e in
-              let p : getD transitions i 0 ≡ t .position = ap (λ (l : List ℕ). getD l i 0) (N .stand) ∙ position-at (net .transitions) i t f in
+              let p : getD transitions i 0 ≡ t .position = ap (λ (l : List ℕ). getD l i 0) (N .stand) ∙ position-elem (net .transitions) i t f in
               rw z (subst (λ (q : ℕ). Parted (getD ws q 0) (take 32 (drop (i * 32) after)) (outline t)) p (P .parts (net .places) t (stands t f .next) (N .wide) (rw p (stands t f .reads))))

@@ -27,7 +27,8 @@ use Rattle.semantics.specs.Enabling.{Firing, Enabled, isEnabled}
 use Rattle.semantics.specs.Run.{menu, Offer, offered, withheld, offer, fireAt, pickFrom, pick}
 use Rattle.semantics.specs.Calls.{Situation, MenuEnd, listedBy, limits}
 use Rattle.semantics.proofs.Tests.{false-true, Every-of}
-use Rattle.semantics.proofs.Members.{none-some, length-at, at-member}
+use Rattle.semantics.proofs.Members.{none-some, length-at, at-member, past-elem, every-elem}
+use Rattle.occurrence.proofs.Situations.{position-elem}
 use Rattle.semantics.proofs.Accepted.{SoundArc, SoundTransition, transition-sound, accepted-read, accepted-sound, accepted-planned}
 use Rattle.semantics.proofs.Offer.{offer-made}
 use Rattle.semantics.proofs.Enabling.{enabled-complete}
@@ -49,7 +50,7 @@ use Rattle.search.specs.Menu.{IsListed}
 use Rattle.run.specs.declared.pick.Picked.{Picked}
 use Rattle.run.specs.Parts.{variablesIn, inputsIn, outputsIn, guardIn, planIn, Parted}
 use Rattle.run.specs.Pick.{Leaves, row, FiresRow, Lists, IsFiredAt, Pickable, IsPicked}
-use Rattle.run.proofs.Parting.{head-inside, past-end, position-at, member-has}
+use Rattle.run.proofs.Parting.{head-inside}
 use Rattle.run.proofs.Firing.{part-is}
 
 -- ── What was listed ──
@@ -124,10 +125,10 @@ module _ {ws ps transitions parts buffer : List ℕ} {size w : ℕ} (P : Pickabl
   among = let l = ap length (P .known .stand) ∙ length-map (net .transitions) (λ (t : Transition). t .position) in let h = P .there in omega arith
 
   stands : At (readTransition ws (net .places)) (λ (t : Transition). t .position) (chosen .0)
-  stands = member-has (At (readTransition ws (net .places)) (λ (t : Transition). t .position)) (net .transitions) (pickTransition w) (chosen .0) (net-transitions ws 0 net (P .known .whole) (accepted-read ws net (P .known .whole) (P .known .accepted))) (chosen .1)
+  stands = every-elem (At (readTransition ws (net .places)) (λ (t : Transition). t .position)) (net .transitions) (pickTransition w) (chosen .0) (net-transitions ws 0 net (P .known .whole) (accepted-read ws net (P .known .whole) (P .known .accepted))) (chosen .1)
 
   at-position : getD transitions (pickTransition w) 0 ≡ chosen .0 .position
-  at-position = ap (λ (l : List ℕ). getD l (pickTransition w) 0) (P .known .stand) ∙ position-at (net .transitions) (pickTransition w) (chosen .0) (chosen .1)
+  at-position = ap (λ (l : List ℕ). getD l (pickTransition w) 0) (P .known .stand) ∙ position-elem (net .transitions) (pickTransition w) (chosen .0) (chosen .1)
 
   reads : readTransition ws (net .places) (getD transitions (pickTransition w) 0) ≡ read (chosen .0) (stands .next)
   reads = rw at-position (stands .reads)
@@ -221,7 +222,7 @@ module _ {ws ps transitions parts buffer : List ℕ} {size w : ℕ} (P : Pickabl
 
         -- 12
         pub pick-past : n ≤ w % 16384 → IsPicked ws budget buffer size spare menus w (record { refusal = noSuchIndex; length = size }) buffer
-        pick-past h = let m = lists .many in let x = index-is in leaves-by (picks-at (past-end (lists .bindings) (pickIndex w) (omega arith))) (refl, refl)
+        pick-past h = let m = lists .many in let x = index-is in leaves-by (picks-at (past-elem (lists .bindings) (pickIndex w) (omega arith))) (refl, refl)
 
         -- ── The binding at its index ──
 

@@ -5,7 +5,7 @@ use mathlib.Core.Bool.{Bool, true, false, not, _&&_}
 use mathlib.Core.Logic.{_⊎_, inl, inr}
 use mathlib.Core.List.{List, [], _∷_, _++_}
 use mathlib.Core.Option.{none}
-use Prim.Native.Nat.{ℕ, zero, suc, _+_, _≤_, _<_}
+use Prim.Native.Nat.{ℕ, suc, _+_, _≤_, _<_}
 use native.Mathlib.Omega.{arith}
 use borrow.Author.Tests.{leb-false}
 use lib.Dec.{leb}
@@ -21,7 +21,7 @@ use Rattle.semantics.specs.Enabling.{Firing, moved, stopped}
 use Rattle.semantics.specs.Run.{Limits, pick, End, plainRun}
 use Rattle.semantics.specs.Calls.{limits}
 use Rattle.semantics.proofs.Tests.{false-true, either}
-use Rattle.semantics.proofs.Members.{none-some}
+use Rattle.semantics.proofs.Members.{none-some, every-number}
 use Rattle.semantics.proofs.Accepted.{SoundNet, accepted-sound}
 use Rattle.semantics.proofs.Markings.{marking-words, marking-proper}
 use Rattle.semantics.proofs.Run.{Numbered, pick-numbered, further, run-append, run-refused, run-fired}
@@ -57,11 +57,6 @@ picks-known n (w ∷ picks) i j e f =
     let a = none-first (λ w. isPick w && leb n (pickTransition w)) w picks i e in
     let b = none-first (λ w. not (isPick w)) w picks j f in
     (known-pick n w (a .0) (b .0), picks-known n picks (i + 1) (j + 1) (a .1) (b .1))
-
-Every-getD : (P : ℕ → Type 0) (l : List ℕ) (i d : ℕ) → Every P l → i < length l → P (getD l i d)
-Every-getD P [] i d e h = absurd (omega arith)
-Every-getD P (x ∷ l) zero d e h = e .0
-Every-getD P (x ∷ l) (suc i) d e h = Every-getD P l i d (e .1) (omega arith)
 
 -- ── What a pick left ──
 
@@ -138,7 +133,7 @@ module _ {ws ps widths transitions : List ℕ} {budget : ℕ} {buffer₀ : List 
 
     module _ (h : done < length picks) where
       pub sofar-pickable : {parts : List ℕ} → PartsKept ws (net ws) parts → Pickable ws ps transitions parts buffer size (getD picks done 0)
-      sofar-pickable k = record { widths = widths; known = R .known; kept = k; inside = S .inside; entries = S .entries; end = S .end; marked = S .marked; there = Every-getD (λ w. pickTransition w < length (net ws .transitions)) picks done 0 (R .there) h }
+      sofar-pickable k = record { widths = widths; known = R .known; kept = k; inside = S .inside; entries = S .entries; end = S .end; marked = S .marked; there = every-number (λ w. pickTransition w < length (net ws .transitions)) picks done 0 (R .there) h }
 
       same-limits : limits budget buffer spare menu ≡ (limits budget buffer₀ spare₀ menu₀)
       same-limits = rw (S .buffer-kept, S .spare-kept, S .menu-kept)

@@ -2,42 +2,35 @@
 -- is at fault.
 use mathlib.Core.Path.{_≡_, refl, sym, ap, _∙_}
 use mathlib.Core.Bool.{true, false}
-use mathlib.Core.List.{List, map}
+use mathlib.Core.List.{List}
 use mathlib.Core.Option.{none, some}
 use Prim.Native.Nat.{ℕ, min, _≤_}
-use native.Mathlib.Omega.{arith}
 use borrow.Author.Tests.{leb-true, leb-false}
 use mathlib.Core.Logic.{_⊎_, inl, inr}
 use lib.Dec.{leb}
-use lib.ListN.{length, take, length-map, length-take}
+use lib.ListN.{length, take}
 use Rattle.semantics.specs.Refusal.{noTransition, badMarking, badPick}
 use Rattle.semantics.specs.Reading.{Reading, read, refused}
-use Rattle.semantics.specs.Net.{Transition, Net}
-use Rattle.semantics.specs.ReadNet.{readNet}
+use Rattle.semantics.specs.Net.{Net}
 use Rattle.semantics.specs.Plan.{acceptNet}
 use Rattle.semantics.specs.Marking.{Entry, firstUnknown, firstMalformed, readMarking}
 use Rattle.semantics.specs.Calls.{Start, markingIn, start}
-use Rattle.semantics.proofs.Accepted.{accepted-read}
 use Rattle.semantics.proofs.Tests.{false-true, either}
 use Rattle.expression.specs.declared.read.Skipped.the-variants.{Next, Refused}
 use Rattle.expression.specs.Skip.{forget, skipped}
 use Rattle.net.specs.declared.index.NetIndex.{NetIndex}
-use Rattle.net.specs.Skim.{changed, netOutline, skimNet}
+use Rattle.net.specs.Skim.{changed, netOutline}
 use Rattle.net.specs.Index.{netRead}
 use Rattle.net.specs.Places.{placesAt, PlacesFit}
-use Rattle.net.proofs.Skimming.{skim-net}
-use Rattle.net.proofs.Placed.{index-widths, index-transitions, index-placed, index-fits}
-use Rattle.accept.proofs.Checking.{take-least, index-read, index-refused}
+use Rattle.accept.proofs.Checking.{index-refused}
+use Rattle.accept.proofs.Tables as tables
 use Rattle.marking.specs.declared.index.MarkingIndex.{MarkingIndex}
 use Rattle.marking.specs.declared.pick.FirstPick.{FirstPick}
 use Rattle.marking.specs.declared.pick.FirstPick.the-variants.{At, Nothing}
 use Rattle.marking.specs.Marked.{markingRead, IsMarkingIn}
 use Rattle.marking.specs.Picks.{firstPick}
-use Rattle.occurrence.proofs.Situations.{passed-refused, passed-read}
+use Rattle.occurrence.proofs.Situations.{next-refused, passed-refused, passed-read}
 use Rattle.run.specs.Start.{IsStart}
-
-next-refused : {X : Type 0} {next n p : ℕ} → Next next ≡ Refused n p → X
-next-refused e = false-true (cc)
 
 -- a refusal is all that is told
 told-refused : {ws buffer : List ℕ} {m : ℕ} {picks : List ℕ} {r : NetIndex} {n p : ℕ} → r .end ≡ Refused n p → start ws buffer m picks ≡ refused n p → IsStart ws buffer m picks r
@@ -52,33 +45,18 @@ module _ (ws buffer : List ℕ) (m : ℕ) (picks : List ℕ) (i : NetIndex) (x :
   start-unaccepted e = told-refused e (rw (index-refused (acceptNet ws) i x e))
 
   module _ {next : ℕ} (e : i .end ≡ Next next) (full : length (i .«places_at») ≡ 64) (wide : length (i .widths) ≡ 64) (long : length (i .«transitions_at») ≡ 64) {q : ℕ} (less : q ≡ min (i .transitions) 64) where
-    net : Net
-    net = index-read (acceptNet ws) i x e .0
+    abbrev net : Net
+    net = tables.net ws i x e
 
     is-accepted : acceptNet ws ≡ read net next
-    unfolding net
-    is-accepted = index-read (acceptNet ws) i x e .1
-
-    reads : readNet ws 0 ≡ read net next
-    reads = accepted-read ws net next is-accepted
-
-    skims : netRead i ≡ skimNet ws 0
-    skims = x ∙ ap (changed netOutline) (is-accepted ∙ sym reads) ∙ skim-net ws 0
-
-    stand : take (i .transitions) (i .«transitions_at») ≡ map (λ (t : Transition). t .position) (net .transitions)
-    stand = index-transitions ws i skims full wide net next reads
-
-    many : length (net .transitions) ≡ q
-    many =
-        let l = sym (length-map (net .transitions) (λ (t : Transition). t .position)) ∙ ap length (sym stand) ∙ length-take (i .transitions) (i .«transitions_at») in
-        omega arith
+    is-accepted = tables.is-accepted ws i x e
 
     pub start-fits : {p : ℕ} → p ≡ min (i .places) 64 → PlacesFit ws (take p (i .«places_at»))
-    start-fits {p} few = rw (take-least (i .«places_at») (i .places) 64 p full few) (index-fits ws i skims full wide net next reads)
+    start-fits few = tables.places-fit ws i x e full wide few
 
     module _ (f : FirstPick) (y : firstPick f ≡ firstUnknown q picks) where
       unknown : firstPick f ≡ firstUnknown (length (net .transitions)) picks
-      unknown = y ∙ ap (λ (k : ℕ). firstUnknown k picks) (sym many)
+      unknown = y ∙ ap (λ (k : ℕ). firstUnknown k picks) (sym (tables.many ws i x e full wide long less))
 
       pub start-unknown : {p : ℕ} {r : NetIndex} → f ≡ At p → r .end ≡ Refused noTransition p → IsStart ws buffer m picks r
       unfolding start
@@ -88,18 +66,15 @@ module _ (ws buffer : List ℕ) (m : ℕ) (picks : List ℕ) (i : NetIndex) (x :
         all-known : firstUnknown (length (net .transitions)) picks ≡ none
         all-known = sym unknown ∙ ap firstPick d
 
-        places-same : take p (i .«places_at») ≡ take (i .places) (i .«places_at»)
-        places-same = take-least (i .«places_at») (i .places) 64 p full few
-
-        placed : net .places ≡ placesAt ws (take (i .places) (i .«places_at»))
-        placed = index-placed ws i skims full wide net next reads
+        placed : net .places ≡ placesAt ws (take p (i .«places_at»))
+        placed = tables.placed ws i x e full wide few
 
         marking-told : skipped (k .end) ≡ forget (markingIn net buffer m)
         unfolding markingIn readMarking markingRead
         marking-told = by (either (leb m (length buffer)))
           where
             by : (leb m (length buffer) ≡ true) ⊎ (leb m (length buffer) ≡ false) → skipped (k .end) ≡ forget (markingIn net buffer m)
-            by (inl h) = rw h (z .within (leb-true m (length buffer) h) .same ∙ ap (λ (l : List ℕ). forget (markingRead (placesAt ws l) (take m buffer))) places-same ∙ ap (λ ps. forget (markingRead ps (take m buffer))) (sym placed))
+            by (inl h) = rw h (z .within (leb-true m (length buffer) h) .same ∙ ap (λ ps. forget (markingRead ps (take m buffer))) (sym placed))
             by (inr h) = rw h (ap skipped (z .beyond (leb-false m (length buffer) h)))
 
         pub start-unmarked : {n s : ℕ} {r : NetIndex} → k .end ≡ Refused n s → r .end ≡ Refused n s → IsStart ws buffer m picks r
@@ -133,10 +108,10 @@ module _ (ws buffer : List ℕ) (m : ℕ) (picks : List ℕ) (i : NetIndex) (x :
                   known = record {
                     whole = next;
                     accepted = is-accepted;
-                    placed = rw (take-least (i .«places_at») (i .places) 64 (min (i .places) 64) full refl) placed;
-                    fits = rw (take-least (i .«places_at») (i .places) 64 (min (i .places) 64) full refl) (index-fits ws i skims full wide net next reads);
-                    wide = take-least (i .widths) (i .places) 64 (min (i .places) 64) wide refl ∙ index-widths ws i skims full wide net next reads;
-                    stand = take-least (i .«transitions_at») (i .transitions) 64 (min (i .transitions) 64) long refl ∙ stand;
+                    placed = tables.placed ws i x e full wide refl;
+                    fits = tables.places-fit ws i x e full wide refl;
+                    wide = tables.widths-are ws i x e full wide refl;
+                    stand = tables.stand ws i x e full wide long refl;
                   };
                   inside = in-buffer .0;
                   entries = marked-in .0;
