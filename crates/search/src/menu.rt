@@ -54,6 +54,7 @@ pub fn list_bindings(
     let conjuncts_at = t.conjuncts_at;
     let inputs_at = t.inputs_at;
     let elements_at = t.elements_at;
+    let mut slots = [0u32; 8];
     let most = most_rows(menu.len(), variables);
     let end = walk(
         net,
@@ -66,7 +67,7 @@ pub fn list_bindings(
         marking,
         begins,
         0,
-        [0; 8],
+        &mut slots[..variables],
         menu,
         most,
         budget,
