@@ -8,6 +8,7 @@ use Prim.Native.Nat.{ℕ, _+_, _<_}
 use native.Mathlib.Omega.{arith}
 use lib.IntN.{ℤ}
 use lib.ListN.{length, getD, take, drop, drop-of-length-le}
+use lib.Seq.{take-all}
 use Rattle.semantics.specs.Lists.{Every, consIf}
 use Rattle.semantics.specs.Word.{payload, bits}
 use Rattle.semantics.specs.Expression.{given, houseTable}
@@ -19,12 +20,12 @@ use Rattle.semantics.specs.Tries.{Partial, bindingOf, tries, countTries}
 use Rattle.semantics.specs.Calls.{Situation}
 use Rattle.semantics.proofs.Leaves.{Sound, sound-fits, sound-next, sound-leaf}
 use Rattle.semantics.proofs.Menu.{binding-full}
+use Rattle.occurrence.specs.Answers.{IsEnabledAt}
 use Rattle.plans.specs.declared.element.Element.{Element as CodeElement}
 use Rattle.plans.specs.Plan.{sorted}
 use Rattle.rows.specs.Rows.{valuesOfWords, IsValue, Listing, listingOf}
-use Rattle.tries.specs.declared.partial.Tried.{Tried}
 use Rattle.tries.specs.declared.step.Step.{Step}
-use Rattle.tries.specs.Partial.{partialOf, tried}
+use Rattle.tries.specs.Partial.{partialOf, IsTried, IsSaved}
 use Rattle.tries.specs.Known.{Knows}
 use Rattle.tries.specs.Step.{Safe, Ready, triesBy, IsArrival}
 use Rattle.tries.specs.World.{World}
@@ -51,17 +52,21 @@ module _ {ws ps : List ℕ} {position v : ℕ} {inputs conjuncts elements ms beg
     full : (zs : List ℤ) × (partialOf v b ≡ map some zs) × (inRanges (s .transition .variables) zs ≡ true)
     full = sound-leaf (subst (λ (es : List Element). Sound (s .transition) es (partialOf v b)) none-left S)
 
-    pub leaf-values : Every IsValue (take v b)
-    leaf-values = slots-values (take v b) (full .0) (full .1) .1
+    module _ (l : length b ≡ v) where
+      all : take v b ≡ b
+      all = take-all v b (omega arith)
 
-    pub walked-leaf : {most budget : ℕ} {c : Progress} {m : List ℕ} {r : Progress} {m′ : List ℕ} → length (take v b) ≡ v → Unspent budget c → IsLeaf ws ps conjuncts inputs ms begins v most b c m r m′ → Ended v most budget (c .rows) m (c .tries) (listingOf v (c .rows) (c .full) m) (costFrom s (drop d (s .transition .plan)) (partialOf v b)) (rowsFrom s (drop d (s .transition .plan)) (partialOf v b)) r m′
-    walked-leaf {budget = budget} l u i =
-        let zs = full .0 in
-        let f : bindingOf (partialOf v b) ≡ zs = ap bindingOf (full .1) ∙ binding-full zs in
-        let g : valuesOfWords (take v b) ≡ zs = slots-values (take v b) zs (full .1) .0 in
-        ended-same (ap (λ (es : List Element). costFrom s es (partialOf v b)) none-left ∙ cost-leaf s (partialOf v b))
-        (ap (λ (es : List Element). rowsFrom s es (partialOf v b)) none-left ∙ rows-leaf s (partialOf v b) ∙ ap (λ (ys : List ℤ). consIf (isEnabled houseTable (s .transition) (s .counts) ys) ys []) f ∙ ap (λ (ys : List ℤ). consIf (isEnabled houseTable (s .transition) (s .counts) zs) ys []) (sym g))
-        (i .ended budget u (isEnabled houseTable (s .transition) (s .counts) zs) (enabled-full W b zs (full .1) l))
+      pub leaf-values : Every IsValue b
+      leaf-values = subst (Every IsValue) all (slots-values (take v b) (full .0) (full .1) .1)
+
+      pub walked-leaf : {most budget : ℕ} {c : Progress} {m : List ℕ} {r : Progress} {m′ : List ℕ} → Unspent budget c → IsLeaf ws ps conjuncts inputs ms begins most b c m r m′ → Ended v most budget (c .rows) m (c .tries) (listingOf v (c .rows) (c .full) m) (costFrom s (drop d (s .transition .plan)) (partialOf v b)) (rowsFrom s (drop d (s .transition .plan)) (partialOf v b)) r m′
+      walked-leaf {most} {budget} {c} {m} {r} {m′} u i =
+          let zs = full .0 in
+          let f : bindingOf (partialOf v b) ≡ zs = ap bindingOf (full .1) ∙ binding-full zs in
+          let g : valuesOfWords b ≡ zs = ap valuesOfWords (sym all) ∙ slots-values (take v b) zs (full .1) .0 in
+          ended-same (ap (λ (es : List Element). costFrom s es (partialOf v b)) none-left ∙ cost-leaf s (partialOf v b))
+          (ap (λ (es : List Element). rowsFrom s es (partialOf v b)) none-left ∙ rows-leaf s (partialOf v b) ∙ ap (λ (ys : List ℤ). consIf (isEnabled houseTable (s .transition) (s .counts) ys) ys []) f ∙ ap (λ (ys : List ℤ). consIf (isEnabled houseTable (s .transition) (s .counts) zs) ys []) (sym g))
+          (subst (λ (k : ℕ). Ended k most budget (c .rows) m (c .tries) (listingOf k (c .rows) (c .full) m) 0 (consIf (isEnabled houseTable (s .transition) (s .counts) zs) (valuesOfWords b) []) r m′) l (i .ended budget u (isEnabled houseTable (s .transition) (s .counts) zs) (λ q x. enabled-full W b zs (full .1) (ap length all ∙ l) q (subst (λ (bs : List ℕ). IsEnabledAt ws ps conjuncts inputs ms begins bs q) (sym all) x))))
 
   -- ── At an element ──
 
@@ -97,10 +102,29 @@ module _ {ws ps : List ℕ} {position v : ℕ} {inputs conjuncts elements ms beg
         knows = A .knows;
       }
 
-  -- a try of the code, among them
-  module _ {step : Step} (P : Stepping step) (i : ℕ) (r : Tried) (x : tried v r ≡ getD (triesBy ws (position + 1) v ms step (partialOf v b)) i none) where
-    pub try-on : r .on ≡ true → getD (tries houseTable (s .net) (s .transition) (s .counts) (sorted (step .element .sort)) (partialOf v b)) i none ≡ some (partialOf v (r .binding))
-    try-on e = ap (λ (os : List (Option Partial)). getD os i none) (sym (P .same)) ∙ sym x ∙ ap (λ (u : Bool). given u (partialOf v (r .binding))) e
+  -- a try of the code from slots that are equal, among them
+  module _ {step : Step} (P : Stepping step) (i : ℕ) {b₁ : List ℕ} (e : b₁ ≡ b) {on : Bool} {b′ : List ℕ} (x : IsTried v (getD (triesBy ws (position + 1) v ms step (partialOf v b₁)) i none) b₁ on b′) where
+    told : getD (tries houseTable (s .net) (s .transition) (s .counts) (sorted (step .element .sort)) (partialOf v b)) i none ≡ given on (partialOf v b′)
+    told = ap (λ (os : List (Option Partial)). getD os i none) (sym (P .same)) ∙ ap (λ (l : List ℕ). getD (triesBy ws (position + 1) v ms step (partialOf v l)) i none) (sym e) ∙ sym (x .same)
 
-    pub try-off : r .on ≡ false → getD (tries houseTable (s .net) (s .transition) (s .counts) (sorted (step .element .sort)) (partialOf v b)) i none ≡ none
-    try-off e = ap (λ (os : List (Option Partial)). getD os i none) (sym (P .same)) ∙ sym x ∙ ap (λ (u : Bool). given u (partialOf v (r .binding))) e
+    pub try-on : on ≡ true → getD (tries houseTable (s .net) (s .transition) (s .counts) (sorted (step .element .sort)) (partialOf v b)) i none ≡ some (partialOf v b′)
+    try-on f = told ∙ ap (λ (u : Bool). given u (partialOf v b′)) f
+
+    pub try-off : on ≡ false → getD (tries houseTable (s .net) (s .transition) (s .counts) (sorted (step .element .sort)) (partialOf v b)) i none ≡ none
+    try-off f = told ∙ ap (λ (u : Bool). given u (partialOf v b′)) f
+
+    -- where it does not go on, the slots are as they were
+    pub try-left : on ≡ false → b′ ≡ b
+    try-left f = x .left f ∙ e
+
+  -- slots that are put back
+  pub back : {b′ saved : List ℕ} (n : ℕ) → IsSaved b saved → n ≡ length b → b′ ≡ take n saved → b′ ≡ b
+  back {saved = saved} n k l e = e ∙ ap (λ (i : ℕ). take i saved) l ∙ k .front
+
+  -- what was kept of slots that are equal
+  pub kept-of : {b₁ saved : List ℕ} → b₁ ≡ b → IsSaved b saved → IsSaved b₁ saved
+  kept-of {saved = saved} e k = subst (λ (l : List ℕ). IsSaved l saved) (sym e) k
+
+  -- what is known of components, under slots that are equal
+  pub knows-of : {step : Step} {b₁ : List ℕ} → Stepping step → b₁ ≡ b → Knows v b₁ (step .parts) (step .known)
+  knows-of {step} P e = subst (λ (l : List ℕ). Knows v l (step .parts) (step .known)) (sym e) (P .knows)

@@ -6,7 +6,7 @@ use mathlib.Core.List.{List, [], map}
 use Prim.Native.Nat.{ℕ, _+_, _*_, _≤_}
 use lib.Dec.{leb}
 use lib.IntN.{ℤ}
-use lib.ListN.{length, take, drop}
+use lib.ListN.{length, drop}
 use Rattle.semantics.specs.declared.Listed.{Listed}
 use Rattle.semantics.specs.Lists.{consIf, select}
 use Rattle.semantics.specs.Expression.{houseTable}
@@ -64,9 +64,9 @@ pub record Ended (w most budget n : ℕ) (m : List ℕ) (t : ℕ) (l : Listing) 
   pub beyond : drop (s′ .rows * w) m′ ≡ drop (s′ .rows * w) m
   pub outcome : outcomeOf w s′ m′ ≡ settle budget (t + cost) (addAll most rows l)
 
--- a full binding of the first w slots is put among the rows where it is enabled, which u tells
-pub record IsLeaf (ws ps conjuncts inputs ms begins : List ℕ) (w most : ℕ) (b : List ℕ) (s : Progress) (m : List ℕ) (s′ : Progress) (m′ : List ℕ) : Type 0 where
-  pub ended : (budget : ℕ) → Unspent budget s → (u : Bool) → ((r : Bool) → IsEnabledAt ws ps conjuncts inputs ms begins (take w b) r → r ≡ u) → Ended w most budget (s .rows) m (s .tries) (listingOf w (s .rows) (s .full) m) 0 (consIf u (valuesOfWords (take w b)) []) s′ m′
+-- a full binding b is put among the rows where it is enabled, which u tells
+pub record IsLeaf (ws ps conjuncts inputs ms begins : List ℕ) (most : ℕ) (b : List ℕ) (s : Progress) (m : List ℕ) (s′ : Progress) (m′ : List ℕ) : Type 0 where
+  pub ended : (budget : ℕ) → Unspent budget s → (u : Bool) → ((r : Bool) → IsEnabledAt ws ps conjuncts inputs ms begins b r → r ≡ u) → Ended (length b) most budget (s .rows) m (s .tries) (listingOf (length b) (s .rows) (s .full) m) 0 (consIf u (valuesOfWords b) []) s′ m′
 
 -- answer and menu, as the definition of the call has them
 abbrev pub menuEnd : Listed → List ℕ → MenuEnd

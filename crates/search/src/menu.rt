@@ -52,6 +52,7 @@ pub fn list_bindings(
     requires { ⌜ World (now net) (now places) position variables (now inputs) (now conjuncts) (now elements) (now marking) (now begins) (sceneOf (now net) position (now marking)) ⌝ }
     ensures { λ r. ⌜ IsListed (now (net .entry)) position (now (marking .entry)) budget (now (menu .entry)) r (now (menu .exit)) ⌝ }
 {
+    let mut slots = [0u32; 8];
     let most = most_rows(menu.len(), variables);
     let end = walk(
         net,
@@ -64,7 +65,7 @@ pub fn list_bindings(
         marking,
         begins,
         0,
-        [0; 8],
+        &mut slots[..variables],
         menu,
         most,
         budget,

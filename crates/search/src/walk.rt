@@ -3,6 +3,8 @@ use crate::leaf::leaf;
 use crate::progress::Progress;
 use plans::element::Element;
 use plans::element::element_of;
+use tries::partial::restore;
+use tries::partial::save;
 use tries::step::arrive;
 use tries::step::try_at;
 use word::fields::payload;
@@ -27,7 +29,7 @@ fn element_at(net: &[u32], at: usize) -> Element
     element_of(payload(net[at]))
 }
 
-// Walks the plan from the element `depth` on.
+// Walks the plan from the element `depth` on. A try writes the slots; what they held on arrival is put back after it, so they are left as they were.
 pub fn walk(
     net: &[u32],
     places: &[usize],
@@ -39,18 +41,19 @@ pub fn walk(
     marking: &[u32],
     begins: &[usize],
     depth: usize,
-    b: [u32; 8],
+    slots: &mut [u32],
     menu: &mut [u32],
     most: usize,
     budget: u32,
     s: Progress,
 ) -> Progress
     requires { ⌜ World (now net) (now places) position variables (now inputs) (now conjuncts) (now elements) (now marking) (now begins) (sceneOf (now net) position (now marking)) ⌝ }
-    requires { ⌜ depth ≤ length (now elements) ⌝ }
-    requires { ⌜ Sound (sceneOf (now net) position (now marking) .transition) (drop depth (sceneOf (now net) position (now marking) .transition .plan)) (partialOf variables b) ⌝ }
+    requires { ⌜ (depth ≤ length (now elements)) × (length (now slots) ≡ variables) ⌝ }
+    requires { ⌜ Sound (sceneOf (now net) position (now marking) .transition) (drop depth (sceneOf (now net) position (now marking) .transition .plan)) (partialOf variables (now slots)) ⌝ }
     requires { ⌜ Held variables most (s .rows) (now menu) ⌝ }
     requires { ⌜ Unspent budget s ⌝ }
-    ensures { λ r. ⌜ Ended variables most budget (s .rows) (now (menu .entry)) (s .tries) (listingOf variables (s .rows) (s .full) (now (menu .entry))) (costFrom (sceneOf (now (net .entry)) position (now (marking .entry))) (drop depth (sceneOf (now (net .entry)) position (now (marking .entry)) .transition .plan)) (partialOf variables b)) (rowsFrom (sceneOf (now (net .entry)) position (now (marking .entry))) (drop depth (sceneOf (now (net .entry)) position (now (marking .entry)) .transition .plan)) (partialOf variables b)) r (now (menu .exit)) ⌝ }
+    ensures { λ r. ⌜ Ended variables most budget (s .rows) (now (menu .entry)) (s .tries) (listingOf variables (s .rows) (s .full) (now (menu .entry))) (costFrom (sceneOf (now (net .entry)) position (now (marking .entry))) (drop depth (sceneOf (now (net .entry)) position (now (marking .entry)) .transition .plan)) (partialOf variables (now (slots .entry)))) (rowsFrom (sceneOf (now (net .entry)) position (now (marking .entry))) (drop depth (sceneOf (now (net .entry)) position (now (marking .entry)) .transition .plan)) (partialOf variables (now (slots .entry)))) r (now (menu .exit)) ⌝ }
+    ensures { λ r. ⌜ now (slots .exit) ≡ now (slots .entry) ⌝ }
 {
     if depth == elements.len() {
         return leaf(
@@ -60,8 +63,7 @@ pub fn walk(
             inputs,
             marking,
             begins,
-            variables,
-            b,
+            slots,
             menu,
             most,
             s,
@@ -77,8 +79,9 @@ pub fn walk(
         marking,
         begins,
         element_at(net, elements[depth]),
-        b,
+        slots,
     );
+    let saved = save(slots);
     let mut cur = s;
     let mut i = 0;
     while i < step.count {
@@ -88,9 +91,16 @@ pub fn walk(
             return cur;
         }
         cur.tries = t + 1;
-        let one = try_at(net, position + 1, variables, marking, step, b, i);
-        if one.on {
-            let next = one.binding;
+        if try_at(
+            net,
+            position + 1,
+            variables,
+            marking,
+            step,
+            slots,
+            &saved,
+            i,
+        ) {
             cur = walk(
                 net,
                 places,
@@ -102,12 +112,13 @@ pub fn walk(
                 marking,
                 begins,
                 depth + 1,
-                next,
+                slots,
                 menu,
                 most,
                 budget,
                 cur,
             );
+            restore(slots, &saved);
             if cur.spent {
                 return cur;
             }

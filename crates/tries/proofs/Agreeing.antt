@@ -90,10 +90,10 @@ module _ (v : ℕ) (b : List ℕ) (ranges : List Range) (w : ℕ) (z : ℤ) {k :
 
 -- i components have agreed
 pub record Agreeing (ranges : List Range) (v : ℕ) (b ms : List ℕ) (at width : ℕ) (parts : List ℕ) (i : ℕ) (cur : List ℕ) : Type 0 where
-  pub full : length cur ≡ 8
+  pub full : length cur ≡ v
   pub ahead : matchedBy ranges (drop i (take width parts)) (drop i (valuesAt ms width at)) (partialOf v cur) ≡ matchedBy ranges (take width parts) (valuesAt ms width at) (partialOf v b)
 
-pub held-start : (ranges : List Range) (v : ℕ) (b ms : List ℕ) (at width : ℕ) (parts : List ℕ) → length b ≡ 8 → Agreeing ranges v b ms at width parts 0 b
+pub held-start : (ranges : List Range) (v : ℕ) (b ms : List ℕ) (at width : ℕ) (parts : List ℕ) → length b ≡ v → Agreeing ranges v b ms at width parts 0 b
 held-start ranges v b ms at width parts l = record { full = l; ahead = refl }
 
 module _ {ranges : List Range} {v : ℕ} {b ms : List ℕ} {at width : ℕ} {parts : List ℕ} {i : ℕ} {cur : List ℕ} (h : Agreeing ranges v b ms at width parts i cur) (l : width ≤ length parts) where

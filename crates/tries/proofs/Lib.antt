@@ -1,4 +1,5 @@
 pub mod Slots
+pub mod Saving
 pub mod Binding
 pub mod Agreeing
 pub mod Knowing

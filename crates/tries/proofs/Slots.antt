@@ -1,6 +1,7 @@
 -- Slots of words as a partial binding. Each law goes along the list: a slot is looked up, or written, at the same place in the words as
 -- in the values.
-use mathlib.Core.Path.{_≡_, refl, ap, fun-ext}
+use mathlib.Core.Path.{_≡_, refl, ap, _∙_, fun-ext}
+use mathlib.Core.Bool.{Bool, true, false}
 use mathlib.Core.List.{List, [], _∷_, map}
 use mathlib.Core.Option.{Option, none, some, bind}
 use Prim.Native.Nat.{ℕ, zero, suc, _≤_, _<_}
@@ -9,7 +10,7 @@ use lib.IntN.{ℤ}
 use lib.ListN.{take, set, getD}
 use Rattle.semantics.specs.Tries.{Partial, partly}
 use Rattle.expression.specs.Evaluate.{valueOf, lent}
-use Rattle.tries.specs.Partial.{partialOf}
+use Rattle.tries.specs.Partial.{partialOf, IsTried}
 
 -- a slot of words is the variable of the partial binding
 slot-lent : (b : List ℕ) (n : ℕ) → lent b n ≡ partly (map valueOf b) n
@@ -41,3 +42,19 @@ slot-beyond zero n b h = refl
 slot-beyond (suc v) n [] h = refl
 slot-beyond (suc v) zero (w ∷ b) h = absurd (omega arith)
 slot-beyond (suc v) (suc n) (w ∷ b) h = slot-beyond v n b (omega arith)
+
+-- ── What a try answers ──
+
+module _ {v : ℕ} {b : List ℕ} where
+  pub tried-not : {o : Option Partial} → none ≡ o → IsTried v o b false b
+  tried-not e = record { same = e; left = λ d. refl }
+
+  pub tried-on : {o : Option Partial} {b′ : List ℕ} → some (partialOf v b′) ≡ o → IsTried v o b true b′
+  tried-on e = record { same = e; left = λ d. let z : _≡_ {A = ℕ} 0 1 = cc in absurd (omega arith) }
+
+  -- the slots are put back
+  pub tried-back : {o : Option Partial} {b′ : List ℕ} → none ≡ o → b′ ≡ b → IsTried v o b false b′
+  tried-back e f = record { same = e; left = λ d. f }
+
+  pub tried-same : {o o′ : Option Partial} {on : Bool} {b′ : List ℕ} → IsTried v o b on b′ → o ≡ o′ → IsTried v o′ b on b′
+  tried-same t e = record { same = t .same ∙ e; left = t .left }

@@ -11,7 +11,7 @@ use borrow.Author.Tests.{ltb-true, ne-eqb}
 use lib.Dec.{eqb}
 use lib.IntN.{ℤ}
 use lib.ListN.{length, take, getD, getElem?}
-use lib.Seq.{length-take-le}
+use lib.Seq.{length-take-le, take-all}
 use Rattle.semantics.specs.Refusal.{mostWords}
 use Rattle.semantics.specs.Word.{kind, payload, Range}
 use Rattle.semantics.specs.Expression.{Environment, Expression, constant, variable, binary, load, houseTable, value, everyVariable}
@@ -48,6 +48,10 @@ module _ (v n : ℕ) (b : List ℕ) (h : n < v) {r : Number} (e : number r ≡ v
   slot-unbound d = ap present (slot-read v n b h ∙ sym e ∙ ap number d)
 
 -- ── A value that may be missing ──
+
+-- slots as many as variables
+pub all-slots : (ws b : List ℕ) (v at : ℕ) → length b ≡ v → (r : Evaluated) → evaluated r ≡ evaluatedFrom (lent b) (readExpression ws (length b) at) → evaluated r ≡ evaluatedFrom (lent (take v b)) (readExpression ws (length (take v b)) at)
+all-slots ws b v at l r e = rw (take-all v b (omega arith)) e
 
 module _ (ws b : List ℕ) (v at : ℕ) (l : v ≤ length b) {r : Evaluated} (h : evaluated r ≡ evaluatedFrom (lent (take v b)) (readExpression ws (length (take v b)) at)) where
   told : {u : Evaluated} → r ≡ u → valueFor ws v b at ≡ valueIn (evaluated u)

@@ -4,16 +4,15 @@ use mathlib.Core.Path.{_≡_}
 use mathlib.Core.Bool.{Bool, true, false, cond}
 use mathlib.Core.List.{List, [], _∷_, map}
 use mathlib.Core.Option.{Option, none, some, bind}
-use Prim.Native.Nat.{ℕ, _%_, _<_}
+use Prim.Native.Nat.{ℕ, _%_, _<_, _≤_}
 use lib.Dec.{eqb}
 use lib.IntN.{ℤ}
-use lib.ListN.{take, set, getElem?}
+use lib.ListN.{length, take, set, getElem?}
 use Rattle.semantics.specs.Word.{kind, payload, signed, Range}
 use Rattle.semantics.specs.Expression.{given}
 use Rattle.semantics.specs.Order.{sameInteger}
 use Rattle.semantics.specs.Tries.{Partial, partly, bindNew, agree}
 use Rattle.expression.specs.Evaluate.{valueOf}
-use Rattle.tries.specs.declared.partial.Tried.{Tried}
 use Rattle.tries.specs.declared.colour.Met.{Met}
 use Rattle.tries.specs.declared.colour.Met.the-variants.{Agrees, Differs, Takes}
 
@@ -21,9 +20,17 @@ use Rattle.tries.specs.declared.colour.Met.the-variants.{Agrees, Differs
 abbrev pub partialOf : ℕ → List ℕ → Partial
 partialOf v b = map valueOf (take v b)
 
--- the partial binding that a try goes on with
-abbrev pub tried : ℕ → Tried → Option Partial
-tried v r = given (r .on) (partialOf v (r .binding))
+-- a try from slots b that answers whether it goes on and leaves slots b′: where it goes on they hold the partial binding that it goes on with, else
+-- they are as they were
+pub record IsTried (v : ℕ) (o : Option Partial) (b : List ℕ) (on : Bool) (b′ : List ℕ) : Type 0 where
+  pub same : given on (partialOf v b′) ≡ o
+  pub left : on ≡ false → b′ ≡ b
+
+-- words that were kept of slots, to be put back
+pub record IsSaved (b saved : List ℕ) : Type 0 where
+  pub few : length b ≤ 8
+  pub full : length saved ≡ 8
+  pub front : take (length b) saved ≡ b
 
 -- a variable is bound to a value that may be missing
 abbrev pub boundBy : List Range → Partial → ℕ → Option ℤ → Option Partial

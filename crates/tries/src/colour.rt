@@ -1,5 +1,5 @@
 // A match try: a colour that stands in the marking held against the components of an arc, told by their first words.
-use crate::partial::Tried;
+use crate::partial::restore;
 use expression::evaluate::value_of;
 use marking::range::in_range;
 use word::fields::kind;
@@ -14,7 +14,7 @@ ghost use lib.ListN.{length, take};
 ghost use Rattle.semantics.specs.Tries.{agree, partly};
 ghost use Rattle.net.specs.Places.{rangesFrom};
 ghost use Rattle.marking.specs.Marked.{valuesAt};
-ghost use Rattle.tries.specs.Partial.{partialOf, tried, partTry, matchedBy, IsMet, metIf};
+ghost use Rattle.tries.specs.Partial.{partialOf, IsTried, IsSaved, partTry, matchedBy, IsMet, metIf};
 
 // How a component of a colour stands to one of an arc: it agrees, it differs, or a variable takes it, as a VALUE word.
 pub enum Met {
@@ -65,7 +65,7 @@ fn meet_part(net: &[u32], ranges: usize, variables: usize, b: &[u32], part: u32,
     }
 }
 
-// The colour at a position of the marking held against `width` components.
+// The colour at a position of the marking held against `width` components. The slots are written as it goes, and put back where a component differs.
 pub fn match_colour(
     net: &[u32],
     ranges: usize,
@@ -73,39 +73,36 @@ pub fn match_colour(
     marking: &[u32],
     at: usize,
     width: usize,
-    parts: [u32; 4],
-    b: [u32; 8],
-) -> Tried
-    requires { ⌜ (variables ≤ 8) × (ranges + variables ≤ length (now net)) ⌝ }
+    parts: &[u32; 4],
+    slots: &mut [u32],
+    saved: &[u32; 8],
+) -> bool
+    requires { ⌜ (length (now slots) ≡ variables) × (ranges + variables ≤ length (now net)) ⌝ }
     requires { ⌜ (width ≤ 4) × (at + width ≤ length (now marking)) ⌝ }
-    ensures { λ r. ⌜ tried variables r ≡ matchedBy (rangesFrom (now (net .entry)) variables ranges) (take width parts) (valuesAt (now (marking .entry)) width at) (partialOf variables b) ⌝ }
+    requires { ⌜ length (now parts) ≡ 4 ⌝ }
+    requires { ⌜ IsSaved (now slots) (now saved) ⌝ }
+    ensures { λ r. ⌜ IsTried variables (matchedBy (rangesFrom (now (net .entry)) variables ranges) (take width (now (parts .entry))) (valuesAt (now (marking .entry)) width at) (partialOf variables (now (slots .entry)))) (now (slots .entry)) r (now (slots .exit)) ⌝ }
 {
-    let mut cur = b;
     let mut i = 0;
     while i < width {
         match meet_part(
             net,
             ranges,
             variables,
-            &cur[..],
+            slots,
             parts[i],
             signed(marking[at + i]),
         ) {
             Met::Agrees => {}
             Met::Differs => {
-                return Tried {
-                    on: false,
-                    binding: cur,
-                };
+                restore(slots, saved);
+                return false;
             }
             Met::Takes(n, w) => {
-                cur[n] = w;
+                slots[n] = w;
             }
         }
         i += 1;
     }
-    Tried {
-        on: true,
-        binding: cur,
-    }
+    true
 }

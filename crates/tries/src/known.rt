@@ -38,23 +38,23 @@ fn known_part(variables: usize, b: &[u32], part: u32) -> u32
 }
 
 // The same of the first `width` components.
-pub fn known_parts(variables: usize, b: [u32; 8], width: usize, parts: [u32; 4]) -> [u32; 4]
-    requires { ⌜ (variables ≤ 8) × (width ≤ 4) ⌝ }
-    ensures { λ r. ⌜ Knows variables b parts r ⌝ }
+pub fn known_parts(variables: usize, b: &[u32], width: usize, parts: &[u32; 4]) -> [u32; 4]
+    requires { ⌜ (variables ≤ length (now b)) × (width ≤ 4) ⌝ }
+    ensures { λ r. ⌜ Knows variables (now (b .entry)) (now (parts .entry)) r ⌝ }
 {
     let mut known = [0u32; 4];
     let mut i = 0;
     while i < width {
-        known[i] = known_part(variables, &b[..], parts[i]);
+        known[i] = known_part(variables, b, parts[i]);
         i += 1;
     }
     known
 }
 
 // Whether the colour at a position of the marking has another value where one is known.
-pub fn differs(marking: &[u32], at: usize, width: usize, known: [u32; 4]) -> bool
+pub fn differs(marking: &[u32], at: usize, width: usize, known: &[u32; 4]) -> bool
     requires { ⌜ (width ≤ 4) × (at + width ≤ length (now marking)) ⌝ }
-    ensures { λ r. ⌜ DiffersIf (now (marking .entry)) at width known r ⌝ }
+    ensures { λ r. ⌜ DiffersIf (now (marking .entry)) at width (now (known .entry)) r ⌝ }
 {
     let mut i = 0;
     while i < width {

@@ -1,18 +1,39 @@
-// Partial bindings as words: a slot for each variable, which holds a VALUE word where the variable is bound and 0 where it is not.
+// Partial bindings as words: a slot for each variable, which holds a VALUE word where the variable is bound and 0 where it is not. The slots are lent,
+// since a copy for each try, with one word set, is loaded right after that word is stored, and the processor waits for it. So a try writes into them,
+// and what it wrote is taken back before the next.
 use marking::range::in_range;
 use word::fields::value_word;
 ghost use mathlib.Core.Path.{_≡_};
 ghost use Prim.Native.Nat.{_≤_, _+_};
-ghost use lib.ListN.{length, getElem?};
+ghost use lib.ListN.{length, take, getElem?};
 ghost use Rattle.semantics.specs.Tries.{bindNew};
 ghost use Rattle.net.specs.Places.{rangesFrom};
-ghost use Rattle.tries.specs.Partial.{partialOf, tried};
+ghost use Rattle.tries.specs.Partial.{partialOf, IsTried, IsSaved};
 
-// Whether a try goes on, and the partial binding that it goes on with. The binding stands first: with the flag before it the compiler copies the
-// binding at odd addresses, and each try waits for its own stores, which doubles what it costs.
-pub struct Tried {
-    pub binding: [u32; 8],
-    pub on: bool,
+// The words of the slots, kept to be put back.
+pub fn save(slots: &[u32]) -> [u32; 8]
+    requires { ⌜ length (now slots) ≤ 8 ⌝ }
+    ensures { λ r. ⌜ IsSaved (now (slots .entry)) r ⌝ }
+{
+    let mut saved = [0u32; 8];
+    let mut i = 0;
+    while i < slots.len() {
+        saved[i] = slots[i];
+        i += 1;
+    }
+    saved
+}
+
+// Puts the words back that were kept.
+pub fn restore(slots: &mut [u32], saved: &[u32; 8])
+    requires { ⌜ (length (now slots) ≤ 8) × (length (now saved) ≡ 8) ⌝ }
+    ensures { λ r. ⌜ now (slots .exit) ≡ take (length (now (slots .entry))) (now (saved .entry)) ⌝ }
+{
+    let mut i = 0;
+    while i < slots.len() {
+        slots[i] = saved[i];
+        i += 1;
+    }
 }
 
 // Binds a variable to a new value, where the value is in its range; the RANGE words of the variables stand from a position on.
@@ -20,24 +41,19 @@ pub fn bind_new(
     net: &[u32],
     ranges: usize,
     variables: usize,
-    b: [u32; 8],
+    slots: &mut [u32],
     n: usize,
     z: i32,
-) -> Tried
-    requires { ⌜ (variables ≤ 8) × (ranges + variables ≤ length (now net)) ⌝ }
-    ensures { λ r. ⌜ tried variables r ≡ bindNew (partialOf variables b) n (getElem? (rangesFrom (now (net .entry)) variables ranges) n) z ⌝ }
+) -> bool
+    requires { ⌜ (length (now slots) ≡ variables) × (ranges + variables ≤ length (now net)) ⌝ }
+    ensures { λ r. ⌜ IsTried variables (bindNew (partialOf variables (now (slots .entry))) n (getElem? (rangesFrom (now (net .entry)) variables ranges) n) z) (now (slots .entry)) r (now (slots .exit)) ⌝ }
 {
-    let mut next = Tried {
-        on: false,
-        binding: b,
-    };
     if variables <= n {
-        return next;
+        return false;
     }
     if !in_range(net[ranges + n], z) {
-        return next;
+        return false;
     }
-    next.binding[n] = value_word(z);
-    next.on = true;
-    next
+    slots[n] = value_word(z);
+    true
 }

@@ -1,10 +1,9 @@
 // A range try: a variable takes a value of its range.
-use crate::partial::Tried;
 ghost use mathlib.Core.Path.{_≡_};
 ghost use mathlib.Core.Option.{some};
 ghost use Prim.Native.Nat.{_≤_, _<_, _+_};
 ghost use lib.ListN.{length, getD, set};
-ghost use Rattle.tries.specs.Partial.{partialOf, tried};
+ghost use Rattle.tries.specs.Partial.{partialOf, IsTried};
 ghost use Rattle.tries.specs.Range.{valueAt, CountsValues};
 
 // How many values a range has, told from its RANGE word.
@@ -21,19 +20,15 @@ pub fn take_value(
     net: &[u32],
     ranges: usize,
     variables: usize,
-    b: [u32; 8],
+    slots: &mut [u32],
     n: usize,
     i: usize,
-) -> Tried
-    requires { ⌜ (variables ≤ 8) × (ranges + variables ≤ length (now net)) ⌝ }
+) -> bool
+    requires { ⌜ (length (now slots) ≡ variables) × (ranges + variables ≤ length (now net)) ⌝ }
     requires { ⌜ (n < variables) × (i < 16384) ⌝ }
-    ensures { λ r. ⌜ tried variables r ≡ some (set (partialOf variables b) n (some (valueAt (getD (now (net .entry)) (ranges + n) 0) i))) ⌝ }
+    ensures { λ r. ⌜ IsTried variables (some (set (partialOf variables (now (slots .entry))) n (some (valueAt (getD (now (net .entry)) (ranges + n) 0) i)))) (now (slots .entry)) r (now (slots .exit)) ⌝ }
 {
     let low = net[ranges + n] / 16384 % 16384;
-    let mut next = Tried {
-        on: true,
-        binding: b,
-    };
-    next.binding[n] = 0xC000_0000 + (low + i as u32) % 16384;
-    next
+    slots[n] = 0xC000_0000 + (low + i as u32) % 16384;
+    true
 }

@@ -1,6 +1,5 @@
 // A solve try: the lone unbound variable on one side of an equation takes the value of the other side. That a side fits was settled when the plan
 // was accepted, so one look at the left side decides.
-use crate::partial::Tried;
 use crate::partial::bind_new;
 use expression::evaluate::Evaluated;
 use expression::evaluate::evaluate;
@@ -12,7 +11,7 @@ ghost use mathlib.Core.Path.{_≡_};
 ghost use Prim.Native.Nat.{_≤_, _<_, _+_};
 ghost use lib.ListN.{length};
 ghost use Rattle.net.specs.Places.{rangesFrom};
-ghost use Rattle.tries.specs.Partial.{partialOf, tried, boundBy};
+ghost use Rattle.tries.specs.Partial.{partialOf, boundBy, IsTried};
 ghost use Rattle.tries.specs.Solve.{valueFor, IsLone, boundAt, solvedAt, HasConjunct};
 
 // A variable takes the value of the expression at a position, where it has one in the variable's range.
@@ -20,23 +19,17 @@ fn bind_value(
     net: &[u32],
     ranges: usize,
     variables: usize,
-    b: [u32; 8],
+    slots: &mut [u32],
     n: usize,
     at: usize,
-) -> Tried
-    requires { ⌜ (variables ≤ 8) × (ranges + variables ≤ length (now net)) ⌝ }
-    ensures { λ r. ⌜ tried variables r ≡ boundBy (rangesFrom (now (net .entry)) variables ranges) (partialOf variables b) n (valueFor (now (net .entry)) variables b at) ⌝ }
+) -> bool
+    requires { ⌜ (length (now slots) ≡ variables) × (ranges + variables ≤ length (now net)) ⌝ }
+    ensures { λ r. ⌜ IsTried variables (boundBy (rangesFrom (now (net .entry)) variables ranges) (partialOf variables (now (slots .entry))) n (valueFor (now (net .entry)) variables (now (slots .entry)) at)) (now (slots .entry)) r (now (slots .exit)) ⌝ }
 {
-    match evaluate(net, &b[..variables], at) {
-        Evaluated::Value(z, _) => bind_new(net, ranges, variables, b, n, z),
-        Evaluated::NoValue(_) => Tried {
-            on: false,
-            binding: b,
-        },
-        Evaluated::Nothing => Tried {
-            on: false,
-            binding: b,
-        },
+    match evaluate(net, slots, at) {
+        Evaluated::Value(z, _) => bind_new(net, ranges, variables, slots, n, z),
+        Evaluated::NoValue(_) => false,
+        Evaluated::Nothing => false,
     }
 }
 
@@ -47,9 +40,9 @@ pub enum Lone {
 }
 
 // What stands at a position, under a partial binding.
-fn lone_at(net: &[u32], variables: usize, b: [u32; 8], at: usize) -> Lone
-    requires { ⌜ (variables ≤ 8) × (at < length (now net)) ⌝ }
-    ensures { λ r. ⌜ IsLone (now (net .entry)) variables b at r ⌝ }
+fn lone_at(net: &[u32], variables: usize, slots: &[u32], at: usize) -> Lone
+    requires { ⌜ (length (now slots) ≡ variables) × (at < length (now net)) ⌝ }
+    ensures { λ r. ⌜ IsLone (now (net .entry)) variables (now (slots .entry)) at r ⌝ }
 {
     let w = net[at];
     if kind(w) != 8 {
@@ -59,46 +52,44 @@ fn lone_at(net: &[u32], variables: usize, b: [u32; 8], at: usize) -> Lone
     if variables <= n {
         return Lone::Nothing;
     }
-    match value_of(b[n]) {
+    match value_of(slots[n]) {
         Number::Some(_) => Lone::Nothing,
         Number::None => Lone::Unbound(n),
     }
 }
 
 // The variable alone at a position takes a value, where one stands there.
-fn bind_lone(net: &[u32], ranges: usize, variables: usize, b: [u32; 8], at: usize, z: i32) -> Tried
-    requires { ⌜ (variables ≤ 8) × (ranges + variables ≤ length (now net)) ⌝ }
+fn bind_lone(
+    net: &[u32],
+    ranges: usize,
+    variables: usize,
+    slots: &mut [u32],
+    at: usize,
+    z: i32,
+) -> bool
+    requires { ⌜ (length (now slots) ≡ variables) × (ranges + variables ≤ length (now net)) ⌝ }
     requires { ⌜ at < length (now net) ⌝ }
-    ensures { λ r. ⌜ tried variables r ≡ boundAt (now (net .entry)) (rangesFrom (now (net .entry)) variables ranges) (partialOf variables b) at z ⌝ }
+    ensures { λ r. ⌜ IsTried variables (boundAt (now (net .entry)) (rangesFrom (now (net .entry)) variables ranges) (partialOf variables (now (slots .entry))) at z) (now (slots .entry)) r (now (slots .exit)) ⌝ }
 {
     let w = net[at];
     if kind(w) != 8 {
-        return Tried {
-            on: false,
-            binding: b,
-        };
+        return false;
     }
-    bind_new(net, ranges, variables, b, payload(w) as usize, z)
+    bind_new(net, ranges, variables, slots, payload(w) as usize, z)
 }
 
 // The equation at a position solved under a partial binding: left is looked at first.
-pub fn solve_at(net: &[u32], ranges: usize, variables: usize, b: [u32; 8], at: usize) -> Tried
-    requires { ⌜ (variables ≤ 8) × (ranges + variables ≤ length (now net)) ⌝ }
+pub fn solve_at(net: &[u32], ranges: usize, variables: usize, slots: &mut [u32], at: usize) -> bool
+    requires { ⌜ (length (now slots) ≡ variables) × (ranges + variables ≤ length (now net)) ⌝ }
     requires { ⌜ HasConjunct (now net) variables at ⌝ }
-    ensures { λ r. ⌜ tried variables r ≡ solvedAt (now (net .entry)) (rangesFrom (now (net .entry)) variables ranges) variables (partialOf variables b) at ⌝ }
+    ensures { λ r. ⌜ IsTried variables (solvedAt (now (net .entry)) (rangesFrom (now (net .entry)) variables ranges) variables (partialOf variables (now (slots .entry))) at) (now (slots .entry)) r (now (slots .exit)) ⌝ }
 {
-    match lone_at(net, variables, b, at + 1) {
-        Lone::Unbound(n) => bind_value(net, ranges, variables, b, n, at + 2),
-        Lone::Nothing => match evaluate(net, &b[..variables], at + 1) {
-            Evaluated::Value(z, right) => bind_lone(net, ranges, variables, b, right, z),
-            Evaluated::NoValue(_) => Tried {
-                on: false,
-                binding: b,
-            },
-            Evaluated::Nothing => Tried {
-                on: false,
-                binding: b,
-            },
+    match lone_at(net, variables, slots, at + 1) {
+        Lone::Unbound(n) => bind_value(net, ranges, variables, slots, n, at + 2),
+        Lone::Nothing => match evaluate(net, slots, at + 1) {
+            Evaluated::Value(z, right) => bind_lone(net, ranges, variables, slots, right, z),
+            Evaluated::NoValue(_) => false,
+            Evaluated::Nothing => false,
         },
     }
 }

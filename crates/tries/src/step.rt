@@ -2,7 +2,6 @@
 use crate::colour::match_colour;
 use crate::known::differs;
 use crate::known::known_parts;
-use crate::partial::Tried;
 use crate::range::count_values;
 use crate::range::take_value;
 use crate::solve::solve_at;
@@ -18,7 +17,7 @@ ghost use mathlib.Core.Option.{none};
 ghost use Prim.Native.Nat.{_≤_, _<_, _+_};
 ghost use lib.ListN.{length, getD, replicate};
 ghost use Rattle.net.specs.Places.{PlacesFit};
-ghost use Rattle.tries.specs.Partial.{partialOf, tried};
+ghost use Rattle.tries.specs.Partial.{partialOf, IsTried, IsSaved};
 ghost use Rattle.tries.specs.Known.{Knows};
 ghost use Rattle.tries.specs.Step.{IsParts, IsMatch, IsArrival, Safe, Ready, triesBy};
 
@@ -78,13 +77,13 @@ fn arrive_match(
     marking: &[u32],
     begins: &[usize],
     e: Element,
-    b: [u32; 8],
+    slots: &[u32],
     at: usize,
 ) -> Step
     requires { ⌜ PlacesFit (now net) (now places) ⌝ }
     requires { ⌜ length (now begins) ≡ 65 ⌝ }
-    requires { ⌜ variables ≤ 8 ⌝ }
-    ensures { λ r. ⌜ IsMatch (now (net .entry)) (now (places .entry)) variables (now (marking .entry)) (now (begins .entry)) e at r × Knows variables b (r .parts) (r .known) ⌝ }
+    requires { ⌜ variables ≤ length (now slots) ⌝ }
+    ensures { λ r. ⌜ IsMatch (now (net .entry)) (now (places .entry)) variables (now (marking .entry)) (now (begins .entry)) e at r × Knows variables (now (slots .entry)) (r .parts) (r .known) ⌝ }
 {
     match take(net, at, 5) {
         Taken::Word(q) => {
@@ -110,7 +109,7 @@ fn arrive_match(
                         from: from,
                         width: width,
                         parts: parts,
-                        known: known_parts(variables, b, width, parts),
+                        known: known_parts(variables, slots, width, &parts),
                     }
                 }
                 Skipped::Refused(_, _) => no_tries(e),
@@ -131,12 +130,12 @@ pub fn arrive(
     marking: &[u32],
     begins: &[usize],
     e: Element,
-    b: [u32; 8],
+    slots: &[u32],
 ) -> Step
     requires { ⌜ PlacesFit (now net) (now places) ⌝ }
     requires { ⌜ length (now begins) ≡ 65 ⌝ }
-    requires { ⌜ (variables ≤ 8) × (position + 1 + variables ≤ length (now net)) ⌝ }
-    ensures { λ r. ⌜ IsArrival (now (net .entry)) (now (places .entry)) position variables (now (inputs .entry)) (now (conjuncts .entry)) (now (marking .entry)) (now (begins .entry)) e b r ⌝ }
+    requires { ⌜ (variables ≤ length (now slots)) × (position + 1 + variables ≤ length (now net)) ⌝ }
+    ensures { λ r. ⌜ IsArrival (now (net .entry)) (now (places .entry)) position variables (now (inputs .entry)) (now (conjuncts .entry)) (now (marking .entry)) (now (begins .entry)) e (now (slots .entry)) r ⌝ }
 {
     let sort = e.sort;
     match sort {
@@ -144,7 +143,7 @@ pub fn arrive(
             if inputs.len() <= k {
                 return no_tries(e);
             }
-            arrive_match(net, places, variables, marking, begins, e, b, inputs[k])
+            arrive_match(net, places, variables, marking, begins, e, slots, inputs[k])
         }
         Sort::Solve(j) => {
             if conjuncts.len() <= j {
@@ -175,22 +174,25 @@ pub fn arrive(
     }
 }
 
-// The i-th try of a step from a partial binding.
+// The i-th try of a step from a partial binding: whether it goes on, and then the slots hold what it goes on with. Where a colour differs from what is
+// known, the slots are not even looked at.
 pub fn try_at(
     net: &[u32],
     ranges: usize,
     variables: usize,
     marking: &[u32],
     s: Step,
-    b: [u32; 8],
+    slots: &mut [u32],
+    saved: &[u32; 8],
     i: usize,
-) -> Tried
-    requires { ⌜ (variables ≤ 8) × (ranges + variables ≤ length (now net)) ⌝ }
+) -> bool
+    requires { ⌜ (length (now slots) ≡ variables) × (ranges + variables ≤ length (now net)) ⌝ }
+    requires { ⌜ IsSaved (now slots) (now saved) ⌝ }
     requires { ⌜ Safe (now marking) variables s ⌝ }
     requires { ⌜ Ready (now net) variables s ⌝ }
-    requires { ⌜ Knows variables b (s .parts) (s .known) ⌝ }
+    requires { ⌜ Knows variables (now slots) (s .parts) (s .known) ⌝ }
     requires { ⌜ i < s .count ⌝ }
-    ensures { λ r. ⌜ tried variables r ≡ getD (triesBy (now (net .entry)) ranges variables (now (marking .entry)) s (partialOf variables b)) i none ⌝ }
+    ensures { λ r. ⌜ IsTried variables (getD (triesBy (now (net .entry)) ranges variables (now (marking .entry)) s (partialOf variables (now (slots .entry)))) i none) (now (slots .entry)) r (now (slots .exit)) ⌝ }
 {
     let e = s.element;
     let sort = e.sort;
@@ -198,17 +200,22 @@ pub fn try_at(
         Sort::Match(_) => {
             let width = s.width;
             let at = s.from + i * (width + 1) + 1;
-            let known = s.known;
-            if differs(marking, at, width, known) {
-                return Tried {
-                    binding: b,
-                    on: false,
-                };
+            if differs(marking, at, width, &s.known) {
+                return false;
             }
-            let parts = s.parts;
-            match_colour(net, ranges, variables, marking, at, width, parts, b)
+            match_colour(
+                net,
+                ranges,
+                variables,
+                marking,
+                at,
+                width,
+                &s.parts,
+                slots,
+                saved,
+            )
         }
-        Sort::Solve(_) => solve_at(net, ranges, variables, b, s.from),
-        Sort::Range(n) => take_value(net, ranges, variables, b, n, i),
+        Sort::Solve(_) => solve_at(net, ranges, variables, slots, s.from),
+        Sort::Range(n) => take_value(net, ranges, variables, slots, n, i),
     }
 }

@@ -1,9 +1,7 @@
 -- `tries::known::differs` meets its contract: where it says yes, the component that it looks at differs. The loop has nothing to keep.
-use mathlib.Core.Path.{_≡_}
 use Prim.Native.Nat.{_-_}
 use native.Mathlib.Omega.{arith}
 use borrow.Author.Needs.{needs}
-use lib.ListN.{length}
 use Rattle.tries.proofs.known.differs.Statement.{statement}
 use Rattle.tries.proofs.known.differs.Tie as tie
 
@@ -13,11 +11,11 @@ Inv-loop marking at width known i₀ i = Unit {0}
 abbrev μ-loop : tie.MeasureT-loop
 μ-loop marking at width known i₀ i = width - i
 
-array-read-w : tie.Need-array-read-w Inv-loop μ-loop
-array-read-w c = let l : length (c .before .before .args .t4) ≡ 4 = c .before .before .good .1 .1 .1 .0 .1 .0 .1 in let k = c .before .before .pre .0 in omega arith
+known-there : tie.Need-element-copy-out-w Inv-loop μ-loop
+known-there c = let k = c .loop-test .taken in let n = c .before .before .pre .0 in omega arith
 
 returns : tie.Need-returns Inv-loop μ-loop
-returns c = record { component = c .before .before .before .before .loop .i; inside = c .before .before .before .loop-test .taken; told = c .before .before .if1 .taken; other = c .if2 .taken }
+returns c = record { component = c .before .before .before .before .before .loop .i; inside = c .before .before .before .before .loop-test .taken; told = c .before .before .if1 .taken; other = c .if2 .taken }
 
 pub differs-spec : {M : Type 1} → statement M
 differs-spec =
@@ -27,7 +25,7 @@ differs-spec =
     μ-loop
     (λ c. tt)
     (λ c. search needs)
-    array-read-w
+    known-there
     (λ c. search needs)
     (λ c. search needs)
     (λ c. search needs)

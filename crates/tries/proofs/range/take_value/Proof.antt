@@ -6,7 +6,7 @@ use native.Mathlib.Omega.{arith}
 use lib.ListN.{getD}
 use borrow.Author.Needs.{needs}
 use Rattle.tries.specs.Range.{valueAt}
-use Rattle.tries.proofs.Slots.{slots-set}
+use Rattle.tries.proofs.Slots.{slots-set, tried-on}
 use Rattle.tries.proofs.Ranging.{written}
 use Rattle.tries.proofs.range.take_value.Statement.{statement}
 use Rattle.tries.proofs.range.take_value.Tie as tie
@@ -16,12 +16,13 @@ returns c =
     let a = c .before .args in
     let w = getD (a .net .now) (a .ranges + a .n) 0 in
     let u = (w / 16384 % 16384 + a .i) % 16384 in
-    ap some (slots-set (a .variables) (a .n) (3221225472 + u) (a .b) (valueAt w (a .i)) (c .before .pre .1 .0) (written u (omega arith)))
+    tried-on (ap some (slots-set (a .variables) (a .n) (3221225472 + u) (a .slots .now) (valueAt w (a .i)) (c .before .pre .1 .0) (written u (omega arith))))
 
 pub take-value-spec : {M : Type 1} → statement M
 take-value-spec =
     tie.close
     (tie.spec
+    (λ c. search needs)
     (λ c. search needs)
     (λ c. search needs)
     (λ c. search needs)

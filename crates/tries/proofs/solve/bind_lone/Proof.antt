@@ -1,9 +1,10 @@
 -- `tries::solve::bind_lone` meets its contract: the kind of the word decides.
-use mathlib.Core.Path.{sym, _∙_}
+use mathlib.Core.Path.{refl, sym, _∙_}
 use borrow.Author.Needs.{needs}
 use mir.Facts.{toZ-ofZ}
 use Rattle.net.specs.Places.{rangesFrom}
 use Rattle.tries.specs.Partial.{partialOf}
+use Rattle.tries.proofs.Slots.{tried-not, tried-same}
 use Rattle.tries.proofs.Solving.{lone-other, lone-bound}
 use Rattle.tries.proofs.solve.bind_lone.Statement.{statement}
 use Rattle.tries.proofs.solve.bind_lone.Tie as tie
@@ -11,14 +12,15 @@ use Rattle.tries.proofs.solve.bind_lone.Tie as tie
 -- another word
 returns : tie.Need-returns
 returns c =
-    let a = c .before .before .before .before .args in
-    lone-other (a .net .now) (rangesFrom (a .net .now) (a .variables) (a .ranges)) (partialOf (a .variables) (a .b)) (a .at) (a .z) (λ k. c .if1 .taken (c .before .kind .ensures .0 ∙ k))
+    let a = c .before .before .before .before .before .args in
+    tried-not (lone-other (a .net .now) (rangesFrom (a .net .now) (a .variables) (a .ranges)) (partialOf (a .variables) (a .slots .now)) (a .at) (a .z) (λ k. c .if1 .taken (c .before .kind .ensures .0 ∙ k)))
 
 -- a VARIABLE word
 returns-2 : tie.Need-returns-2
 returns-2 c =
-    let a = c .before .before .before .before .before .before .args in
-    lone-bound (a .net .now) (rangesFrom (a .net .now) (a .variables) (a .ranges)) (partialOf (a .variables) (a .b)) (a .at) (a .z) (sym (c .before .before .before .kind .ensures .0) ∙ c .before .before .if1 .left) (c .before .payload .ensures .0) (simp (toZ-ofZ (c .before .before .before .before .before .before .fits .z)) at (c .bind-new .ensures))
+    let st = c .before .before .before .before .before .before .before .before .before .before in
+    let a = st .args in
+    tried-same (simp (toZ-ofZ (st .fits .z)) at (c .before .before .bind-new .ensures)) (lone-bound (a .net .now) (rangesFrom (a .net .now) (a .variables) (a .ranges)) (partialOf (a .variables) (a .slots .now)) (a .at) (a .z) (sym (c .before .before .before .before .before .before .kind .ensures .0) ∙ c .before .before .before .before .before .if1 .left) (c .before .before .before .payload .ensures .0) refl)
 
 pub bind-lone-spec : {M : Type 1} → statement M
 bind-lone-spec =
@@ -31,4 +33,5 @@ bind-lone-spec =
     (λ c κs. search needs)
     (λ c. search needs)
     (λ c κs. search needs)
+    (λ c. search needs)
     returns-2)

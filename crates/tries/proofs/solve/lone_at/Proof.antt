@@ -16,11 +16,13 @@ returns-2 c = λ k l. let e = c .before .payload .ensures .0 in let h = c .if2 .
 
 -- a bound one
 returns-3 : tie.Need-returns-3
-returns-3 c = λ k l. rw (← c .before .before .before .before .payload .ensures .0) (slot-bound (c .before .before .before .before .before .before .before .before .before .args .variables) (c .before .before .before .before .payload .result) (c .before .before .before .before .before .before .before .before .before .args .t3) (c .before .before .before .if2 .left) (c .before .before .value-of .ensures) (c .enum-told .given .1))
+returns-3 c = λ k l. let a = c .before .before .before .before .before .before .before .before .before .before .before .args in rw (← c .before .before .before .before .before .payload .ensures .0) (slot-bound (a .variables) (c .before .before .before .before .before .payload .result) (a .slots .now) (c .before .before .before .before .if2 .left) (c .before .before .value-of .ensures) (c .enum-told .given .1))
 
 -- an unbound one
 returns-4 : tie.Need-returns-4
-returns-4 c = (sym (c .before .before .before .before .before .before .kind .ensures .0) ∙ c .before .before .before .before .before .if1 .left, c .before .before .before .before .payload .ensures .0, c .before .before .before .if2 .left, slot-unbound (c .before .before .before .before .before .before .before .before .before .args .variables) (c .before .before .before .before .payload .result) (c .before .before .before .before .before .before .before .before .before .args .t3) (c .before .before .before .if2 .left) (c .before .before .value-of .ensures) (c .enum-told2 .given .1))
+returns-4 c =
+    let a = c .before .before .before .before .before .before .before .before .before .before .before .args in
+    (sym (c .before .before .before .before .before .before .before .kind .ensures .0) ∙ c .before .before .before .before .before .before .if1 .left, c .before .before .before .before .before .payload .ensures .0, c .before .before .before .before .if2 .left, slot-unbound (a .variables) (c .before .before .before .before .before .payload .result) (a .slots .now) (c .before .before .before .before .if2 .left) (c .before .before .value-of .ensures) (c .enum-told2 .given .1))
 
 pub lone-at-spec : {M : Type 1} → statement M
 lone-at-spec =

@@ -1,69 +1,72 @@
 -- `tries::solve::solve_at` meets its contract: each answer by its rule in `Solving`.
-use mathlib.Core.Path.{sym}
+use mathlib.Core.Path.{refl}
 use Prim.Native.Nat.{_+_, _≤_}
 use native.Mathlib.Omega.{arith}
 use borrow.Author.Needs.{needs}
 use lib.ListN.{length}
-use lib.Seq.{length-take-le}
 use Rattle.net.specs.Places.{rangesFrom}
 use Rattle.word.proofs.Read.{read-back}
-use Rattle.tries.proofs.Solving.{left-inside, left-unbound, left-value, left-none, left-unread, left-ends}
+use Rattle.tries.proofs.Slots.{tried-not, tried-same}
+use Rattle.tries.proofs.Solving.{all-slots, left-inside, left-unbound, left-value, left-none, left-unread, left-ends}
 use Rattle.tries.proofs.solve.solve_at.Statement.{statement}
 use Rattle.tries.proofs.solve.solve_at.Tie as tie
 
 add-lone-at : tie.Need-add-lone-at
-add-lone-at c = let h : c .before .args .at + 2 ≤ 16384 = left-inside (c .before .pre .1) .1 in search needs
+add-lone-at c = let st = c .before .before .before in let h : st .args .at + 2 ≤ 16384 = left-inside (st .pre .1) .1 in search needs
 
 lone-at-requires : tie.Need-lone-at-requires
-lone-at-requires c κs = (c .before .pre .0 .0, left-inside (c .before .pre .1) .0)
+lone-at-requires c κs = let st = c .before .before .before in (st .pre .0 .0, left-inside (st .pre .1) .0)
 
 add-bind-value : tie.Need-add-bind-value
-add-bind-value c = let h : c .before .before .before .before .before .args .at + 2 ≤ 16384 = left-inside (c .before .before .before .before .before .pre .1) .1 in search needs
-
-slice-aggregate-evaluate : tie.Need-slice-aggregate-evaluate
-slice-aggregate-evaluate c =
-    let a = c .before .before .before .before .before .args in
-    let l : a .variables ≤ length (a .t4) = omega (arith, c .before .before .before .before .before .good .1 .1 .1 .0 .1 .0 .1, c .before .before .before .before .before .pre .0 .0) in
-    sym (length-take-le (a .variables) (a .t4) l)
+add-bind-value c = let st = c .before .before .before .before .before .before .before .before in let h : st .args .at + 2 ≤ 16384 = left-inside (st .pre .1) .1 in search needs
 
 add-evaluate : tie.Need-add-evaluate
-add-evaluate c = let h : c .before .before .before .before .before .args .at + 2 ≤ 16384 = left-inside (c .before .before .before .before .before .pre .1) .1 in search needs
+add-evaluate c = let st = c .before .before .before .before .before .before .before in let h : st .args .at + 2 ≤ 16384 = left-inside (st .pre .1) .1 in search needs
 
 -- the right side begins in the words
 bind-lone-requires : tie.Need-bind-lone-requires
 bind-lone-requires c κs =
-    let a = c .before .before .before .before .before .before .before .before .before .args in
-    let l : a .variables ≤ length (a .t4) = omega (arith, c .before .before .before .before .before .before .before .before .before .good .1 .1 .1 .0 .1 .0 .1, c .before .before .before .before .before .before .before .before .before .pre .0 .0) in
-    (c .before .before .before .before .before .before .before .before .before .pre .0, left-ends (c .before .before .before .before .before .before .before .before .before .pre .1) (a .t4) l (c .before .before .before .evaluate .ensures) (c .before .z .given .1))
+    let st = c .before .before .before .before .before .before .before .before .before .before .before .before in
+    let a = st .args in
+    let n = st .pre .0 .0 in
+    let l : a .variables ≤ length (a .slots .now) = omega arith in
+    (st .pre .0, left-ends (st .pre .1) (a .slots .now) l (all-slots (a .net .now) (a .slots .now) (a .variables) (a .at + 1) n (c .before .before .before .before .evaluate .result) (c .before .before .before .before .evaluate .ensures)) (c .before .before .z .given .1))
 
 -- the left side is an unbound variable alone
 returns : tie.Need-returns
 returns c =
-    let a = c .before .before .before .before .before .before .args in
-    left-unbound (c .before .before .before .before .before .before .pre .1) (a .t4) (rangesFrom (a .net .now) (a .variables) (a .ranges)) {n = c .before .before .n .given .0 .0} (rw (c .before .before .n .given .1) at (c .before .before .before .before .lone-at .ensures)) (c .bind-value .ensures)
+    let st = c .before .before .before .before .before .before .before .before .before .before .before in
+    let a = st .args in
+    tried-same (c .before .before .bind-value .ensures) (left-unbound (st .pre .1) (a .slots .now) (rangesFrom (a .net .now) (a .variables) (a .ranges)) {n = c .before .before .before .before .before .n .given .0 .0} (rw (c .before .before .before .before .before .n .given .1) at (c .before .before .before .before .before .before .before .lone-at .ensures)) refl)
 
 -- it has a value
 returns-2 : tie.Need-returns-2
 returns-2 c =
-    let a = c .before .before .before .before .before .before .before .before .before .before .args in
-    let l : a .variables ≤ length (a .t4) = omega (arith, c .before .before .before .before .before .before .before .before .before .before .good .1 .1 .1 .0 .1 .0 .1, c .before .before .before .before .before .before .before .before .before .before .pre .0 .0) in
-    let z = c .before .before .z .given in
-    let p = read-back (z .0 .0) (c .before .known-told2 .given .0 .1) in
-    left-value (c .before .before .before .before .before .before .before .before .before .before .pre .1) (a .t4) (rangesFrom (a .net .now) (a .variables) (a .ranges)) (rw (c .before .before .before .before .before .before .enum-told .given .1) at (c .before .before .before .before .before .before .before .before .lone-at .ensures)) l (c .before .before .before .before .evaluate .ensures) (z .1) (simp p at (c .bind-lone .ensures))
+    let st = c .before .before .before .before .before .before .before .before .before .before .before .before .before .before .before in
+    let a = st .args in
+    let n = st .pre .0 .0 in
+    let l : a .variables ≤ length (a .slots .now) = omega arith in
+    let z = c .before .before .before .before .before .z .given in
+    let p = read-back (z .0 .0) (c .before .before .before .before .known-told2 .given .0 .1) in
+    tried-same (simp p at (c .before .before .bind-lone .ensures)) (left-value (st .pre .1) (a .slots .now) (rangesFrom (a .net .now) (a .variables) (a .ranges)) (rw (c .before .before .before .before .before .before .before .before .before .enum-told .given .1) at (c .before .before .before .before .before .before .before .before .before .before .before .lone-at .ensures)) l (all-slots (a .net .now) (a .slots .now) (a .variables) (a .at + 1) n (c .before .before .before .before .before .before .before .evaluate .result) (c .before .before .before .before .before .before .before .evaluate .ensures)) (z .1) refl)
 
 -- it has none
 returns-3 : tie.Need-returns-3
 returns-3 c =
-    let a = c .before .before .before .before .before .before .before .before .args in
-    let l : a .variables ≤ length (a .t4) = omega (arith, c .before .before .before .before .before .before .before .before .good .1 .1 .1 .0 .1 .0 .1, c .before .before .before .before .before .before .before .before .pre .0 .0) in
-    left-none (c .before .before .before .before .before .before .before .before .pre .1) (a .t4) (rangesFrom (a .net .now) (a .variables) (a .ranges)) (rw (c .before .before .before .before .enum-told .given .1) at (c .before .before .before .before .before .before .lone-at .ensures)) l (c .before .before .evaluate .ensures) (c .enum-told2 .given .1)
+    let st = c .before .before .before .before .before .before .before .before .before .before in
+    let a = st .args in
+    let n = st .pre .0 .0 in
+    let l : a .variables ≤ length (a .slots .now) = omega arith in
+    tried-not (left-none (st .pre .1) (a .slots .now) (rangesFrom (a .net .now) (a .variables) (a .ranges)) (rw (c .before .before .before .before .enum-told .given .1) at (c .before .before .before .before .before .before .lone-at .ensures)) l (all-slots (a .net .now) (a .slots .now) (a .variables) (a .at + 1) n (c .before .before .evaluate .result) (c .before .before .evaluate .ensures)) (c .enum-told2 .given .1))
 
 -- it is not there
 returns-4 : tie.Need-returns-4
 returns-4 c =
-    let a = c .before .before .before .before .before .before .before .before .args in
-    let l : a .variables ≤ length (a .t4) = omega (arith, c .before .before .before .before .before .before .before .before .good .1 .1 .1 .0 .1 .0 .1, c .before .before .before .before .before .before .before .before .pre .0 .0) in
-    left-unread (c .before .before .before .before .before .before .before .before .pre .1) (a .t4) (rangesFrom (a .net .now) (a .variables) (a .ranges)) (rw (c .before .before .before .before .enum-told .given .1) at (c .before .before .before .before .before .before .lone-at .ensures)) l (c .before .before .evaluate .ensures) (c .enum-told3 .given .1)
+    let st = c .before .before .before .before .before .before .before .before .before .before in
+    let a = st .args in
+    let n = st .pre .0 .0 in
+    let l : a .variables ≤ length (a .slots .now) = omega arith in
+    tried-not (left-unread (st .pre .1) (a .slots .now) (rangesFrom (a .net .now) (a .variables) (a .ranges)) (rw (c .before .before .before .before .enum-told .given .1) at (c .before .before .before .before .before .before .lone-at .ensures)) l (all-slots (a .net .now) (a .slots .now) (a .variables) (a .at + 1) n (c .before .before .evaluate .result) (c .before .before .evaluate .ensures)) (c .enum-told3 .given .1))
 
 pub solve-at-spec : {M : Type 1} → statement M
 solve-at-spec =
@@ -75,15 +78,17 @@ solve-at-spec =
     add-bind-value
     (λ c κs. search needs)
     (λ c. search needs)
-    (λ c. search needs)
-    slice-aggregate-evaluate
     add-evaluate
     (λ c κs. search needs)
     (λ c. search needs)
     bind-lone-requires
     (λ c. search needs)
     (λ c. search needs)
+    (λ c. search needs)
     returns
+    (λ c. search needs)
     returns-2
+    (λ c. search needs)
     returns-3
+    (λ c. search needs)
     returns-4)

@@ -6,7 +6,7 @@ use Rattle.tries.proofs.step.arrive.Statement.{statement}
 use Rattle.tries.proofs.step.arrive.Tie as tie
 
 arrive-match-requires : tie.Need-arrive-match-requires
-arrive-match-requires c κs = (c .before .before .before .before .before .before .before .before .before .before .before .pre .0, (c .before .before .before .before .before .before .before .before .before .before .before .pre .1 .0, c .before .before .before .before .before .before .before .before .before .before .before .pre .1 .1 .0))
+arrive-match-requires c κs = (c .before .before .before .before .before .before .before .before .before .before .before .before .pre .0, (c .before .before .before .before .before .before .before .before .before .before .before .before .pre .1 .0, c .before .before .before .before .before .before .before .before .before .before .before .before .pre .1 .1 .0))
 
 returns : tie.Need-returns
 returns c = match-past _ _ _ _ _ _ _ _ _ _ _ (without (c .no-tries .ensures)) (c .before .before .before .sort .given .1) (c .before .if1 .taken)
@@ -24,10 +24,10 @@ returns-5 : tie.Need-returns-5
 returns-5 c = solve-there _ _ _ _ _ _ _ _ _ _ (c .before .before .before .sort2 .given .1) (c .before .if2 .left)
 
 add-near : tie.Need-add-count-values
-add-near c = let l = c .before .before .before .before .before .before .before .before .before .before .pre .1 .1 .1 in search needs
+add-near c = let l = c .before .before .before .before .before .before .before .before .before .before .before .pre .1 .1 .1 in search needs
 
 add-there : tie.Need-add-count-values-2
-add-there c = let l = c .before .before .before .before .before .before .before .before .before .before .pre .1 .1 .1 in let k = c .if3 .left in search needs
+add-there c = let l = c .before .before .before .before .before .before .before .before .before .before .before .pre .1 .1 .1 in let k = c .if3 .left in search needs
 
 returns-6 : tie.Need-returns-6
 returns-6 c = range-there _ _ _ _ _ _ _ _ _ _ (c .before .before .before .before .sort3 .given .1) (c .before .before .if3 .left) (c .count-values .ensures)
