@@ -5,12 +5,12 @@ use mathlib.Core.Logic.{_⊎_, inl, inr}
 use Prim.Native.Nat.{ℕ, zero, suc, _+_, _*_, _-_, _/_, _%_, _≤_, _<_, _^_}
 use mathlib.Core.Bool.{Bool, true, false, _&&_, _||_, and-assoc}
 use mathlib.Core.List.{List, [], _∷_, _++_}
-use borrow.Author.Tests.{ltb-true, ltb-false, eqb-true, eqb-false, lt-ltb, le-ltb, eq-eqb, ne-eqb}
+use borrow.Author.Tests.{leb-true, le-leb, lt-leb, ltb-true, ltb-false, eqb-true, eqb-false, lt-ltb, le-ltb, eq-eqb, ne-eqb}
 use native.Mathlib.Nat.{pow-suc, pow-le-pow-right}
 use native.Mathlib.Omega.{arith}
-use lib.Dec.{ltb, eqb}
+use lib.Dec.{leb, ltb, eqb}
 use lib.IntN.{ℤ}
-use lib.Signed.{ltZ, mag}
+use lib.Signed.{ltZ, leZ, mag}
 use lib.ListN.{length, getD, length-append}
 use Rattle.semantics.specs.Order.{sameInteger, sameTuple, before}
 use Rattle.semantics.specs.Word.{signed, modulo, valueWord}
@@ -35,6 +35,18 @@ digit-less a b h k = by (either (ltb a 8192)) (either (ltb b 8192))
     by (inl p) (inr q) = let l = ltb-true a 8192 p in let m = ltb-false b 8192 q in rw (p, q) (sym (lt-ltb a b (omega arith)))
     by (inr p) (inl q) = let l = ltb-false a 8192 p in let m = ltb-true b 8192 q in rw (p, q) (sym (le-ltb a b (omega arith)))
     by (inr p) (inr q) = let l = ltb-false a 8192 p in let m = ltb-false b 8192 q in rw (p, q) (ltb-same (a - 8192) (b - 8192) a b (λ t. omega arith) (λ t. omega arith))
+
+leb-same : (a b c d : ℕ) → (a ≤ b → c ≤ d) → (c ≤ d → a ≤ b) → leb a b ≡ leb c d
+leb-same a b c d f g = same-test (leb a b) (leb c d) (λ t. le-leb c d (f (leb-true a b t))) (λ t. le-leb a b (g (leb-true c d t)))
+
+pub digit-at-most : (a b : ℕ) → a < 16384 → b < 16384 → leZ (ofDigit a) (ofDigit b) ≡ leb a b
+digit-at-most a b h k = by (either (ltb a 8192)) (either (ltb b 8192))
+  where
+    by : (ltb a 8192 ≡ true) ⊎ (ltb a 8192 ≡ false) → (ltb b 8192 ≡ true) ⊎ (ltb b 8192 ≡ false) → leZ (ofDigit a) (ofDigit b) ≡ leb a b
+    by (inl p) (inl q) = let l = ltb-true a 8192 p in let m = ltb-true b 8192 q in rw (p, q) (leb-same (8191 - b) (8191 - a) a b (λ t. omega arith) (λ t. omega arith))
+    by (inl p) (inr q) = let l = ltb-true a 8192 p in let m = ltb-false b 8192 q in rw (p, q) (sym (le-leb a b (omega arith)))
+    by (inr p) (inl q) = let l = ltb-false a 8192 p in let m = ltb-true b 8192 q in rw (p, q) (sym (lt-leb a b (omega arith)))
+    by (inr p) (inr q) = let l = ltb-false a 8192 p in let m = ltb-false b 8192 q in rw (p, q) (leb-same (a - 8192) (b - 8192) a b (λ t. omega arith) (λ t. omega arith))
 
 digit-same : (a b : ℕ) → a < 16384 → b < 16384 → sameInteger (ofDigit a) (ofDigit b) ≡ eqb a b
 unfolding sameInteger

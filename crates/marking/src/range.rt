@@ -1,31 +1,30 @@
-// A value held against a RANGE word of the net.
-use word::fields::signed;
+// A value held against a RANGE word of the net, as digits, which stand to each other as values do.
+use crate::code::digit_of;
+use word::fields::value_word;
+use word::fields::within;
 ghost use mathlib.Core.Path.{_≡_};
-ghost use Prim.Native.Nat.{_/_, _%_};
-ghost use lib.Signed.{leZ};
-ghost use Rattle.semantics.specs.Word.{signed, within};
+ghost use Prim.Native.Nat.{_<_};
+ghost use Rattle.semantics.specs.Word.{within};
 ghost use Rattle.word.specs.Fields.{rangeWord};
+ghost use Rattle.marking.specs.Code.{ofDigit};
 
-// Whether a value is at least the low end of a RANGE word.
-fn from_low(range: u32, z: i32) -> bool
-    ensures { λ r. ⌜ r ≡ leZ (signed (range / 16384 % 16384)) z ⌝ }
+// Whether the value of a digit is in the range of a RANGE word.
+fn digit_in(range: u32, d: u64) -> bool
+    requires { ⌜ d < 16384 ⌝ }
+    ensures { λ r. ⌜ r ≡ within (rangeWord range) (ofDigit d) ⌝ }
 {
-    signed(range / 16384) <= z
+    if d < digit_of(range / 16384) {
+        return false;
+    }
+    d <= digit_of(range)
 }
 
-// Whether a value is at most the high end of a RANGE word.
-fn to_high(range: u32, z: i32) -> bool
-    ensures { λ r. ⌜ r ≡ leZ z (signed (range % 16384)) ⌝ }
-{
-    z <= signed(range)
-}
-
-// Whether a value is in the range of a RANGE word.
+// Whether a value is in the range of a RANGE word. One that has more than 14 bits is in none.
 pub fn in_range(range: u32, z: i32) -> bool
     ensures { λ r. ⌜ r ≡ within (rangeWord range) z ⌝ }
 {
-    if !from_low(range, z) {
+    if !within(-8192, 8191, z) {
         return false;
     }
-    to_high(range, z)
+    digit_in(range, digit_of(value_word(z)))
 }
