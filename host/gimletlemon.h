@@ -13,7 +13,7 @@
  * Numbers to be written (uint64_t *) are never NULL, are aligned to 8 bytes, and are written on every call, whatever it answers. They overlap
  * neither each other nor any slice; what they hold before the call does not matter.
  *
- * Functions on words use less than 32 KB of stack; those on bytes say what they use.
+ * Functions on words use less than 40 KB of stack, the run most of it, for a table of its transitions; those on bytes say what they use.
  *
  * Functions may be called from several threads at once if no call writes what another call uses.
  */
