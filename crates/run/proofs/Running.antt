@@ -28,9 +28,9 @@ use Rattle.semantics.proofs.Run.{Numbered, pick-numbered, further, run-append, 
 use Rattle.semantics.proofs.Reach.{Marks, pick-marks}
 use Rattle.marking.specs.Marked.{markingRead}
 use Rattle.search.specs.Scene.{netOf, countsIn}
-use Rattle.run.specs.declared.pick.Picked.{Picked}
-use Rattle.run.specs.Parts.{NetRead, PartsKept}
-use Rattle.run.specs.Pick.{Leaves, Pickable, IsPicked}
+use Rattle.picks.specs.declared.pick.Picked.{Picked}
+use Rattle.picks.specs.Parts.{NetRead, PartsKept}
+use Rattle.picks.specs.Pick.{Leaves, Pickable, IsPicked}
 use Rattle.run.specs.Run.{Runnable, HasRun}
 
 -- ── Picks that are all good ──

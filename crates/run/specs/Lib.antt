@@ -1,4 +1,2 @@
 pub mod Start
-pub mod Parts
-pub mod Pick
 pub mod Run

@@ -16,7 +16,7 @@ use Rattle.semantics.specs.Calls.{limits, RunEnd}
 use Rattle.marking.specs.Marked.{markingRead}
 use Rattle.search.specs.Scene.{netOf, countsIn}
 use Rattle.run.specs.declared.run.Ended.{Ended}
-use Rattle.run.specs.Start.{NetKnown}
+use Rattle.picks.specs.Known.{NetKnown}
 
 -- a net, an accepted marking at the front of a buffer, and picks of the net's transitions
 pub record Runnable (ws ps widths transitions buffer : List ℕ) (m : ℕ) (picks : List ℕ) : Type 0 where

@@ -15,15 +15,7 @@ use Rattle.net.specs.declared.index.NetIndex.{NetIndex}
 use Rattle.net.specs.Skim.{width}
 use Rattle.net.specs.Places.{placesAt, PlacesFit}
 use Rattle.marking.specs.Marked.{markingRead}
-
--- an accepted net, by the positions of its places and transitions
-pub record NetKnown (ws ps widths transitions : List ℕ) (net : Net) : Type 0 where
-  pub whole : ℕ
-  pub accepted : acceptNet ws ≡ read net whole
-  pub placed : net .places ≡ placesAt ws ps
-  pub fits : PlacesFit ws ps
-  pub wide : widths ≡ map width (net .places)
-  pub stand : transitions ≡ map (λ (t : Transition). t .position) (net .transitions)
+use Rattle.picks.specs.Known.{NetKnown}
 
 -- an accepted net, an accepted marking in the first m words of a buffer, and picks of the net's transitions
 pub record Started (ws buffer : List ℕ) (m : ℕ) (picks : List ℕ) (r : NetIndex) : Type 0 where

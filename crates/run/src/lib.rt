@@ -2,9 +2,5 @@
 
 // What a run starts from.
 pub mod begin;
-// The parts of the transitions.
-pub mod parts;
-// One pick.
-pub mod pick;
 // The call run.
 pub mod run;

@@ -18,11 +18,11 @@ use Rattle.semantics.proofs.Tests.{false-true}
 use Rattle.firing.specs.Fire.{FireableAt, fireEnd, IsFiredEnabled}
 use Rattle.firing.proofs.Firing.{enabled-at}
 use Rattle.patch.specs.Patch.{written}
-use Rattle.run.specs.declared.pick.Picked.{Picked}
-use Rattle.run.specs.Parts.{variablesIn, inputsIn, outputsIn}
+use Rattle.picks.specs.declared.pick.Picked.{Picked}
+use Rattle.picks.specs.Parts.{variablesIn, inputsIn, outputsIn}
 use Rattle.tries.specs.World.{World}
 use Rattle.search.specs.Scene.{sceneOf}
-use Rattle.run.specs.Pick.{Lists, Leaves, Fires, row, FiresRow, IsFiredAt}
+use Rattle.picks.specs.Pick.{Lists, Leaves, Fires, row, FiresRow, IsFiredAt}
 
 -- what fire answers and leaves, by what it comes to
 by-refused : (net : Net) (part after : List ℕ) (n p : ℕ) (x : Firing) → fireEnd (FireRefused n p) after ≡ firedBy net part x → x ≡ stopped n

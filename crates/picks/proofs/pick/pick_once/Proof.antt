@@ -1,10 +1,10 @@
--- `run::pick::pick_once` meets its contract: each return is a rule of `Picking`.
+-- `picks::pick::pick_once` meets its contract: each return is a rule of `Picking`.
 use mathlib.Core.Path.{refl, sym}
 use lib.Seq.{length-take-le}
-use Rattle.run.proofs.Picking.{among, pick-inside, pick-room, pick-accepted, pick-lists, pick-withheld, pick-past, pick-fires, pick-fired}
+use Rattle.picks.proofs.Picking.{among, pick-inside, pick-room, pick-accepted, pick-lists, pick-withheld, pick-past, pick-fires, pick-fired}
 use borrow.Author.Needs.{needs}
-use Rattle.run.proofs.pick.pick_once.Statement.{statement}
-use Rattle.run.proofs.pick.pick_once.Tie as tie
+use Rattle.picks.proofs.pick.pick_once.Statement.{statement}
+use Rattle.picks.proofs.pick.pick_once.Tie as tie
 
 shared-slice-read-position : tie.Need-shared-slice-read-position
 shared-slice-read-position c = among (c .before .before .before .before .before .before .before .before .pre)

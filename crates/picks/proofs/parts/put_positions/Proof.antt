@@ -1,12 +1,12 @@
--- `run::parts::put_positions` meets its contract: the positions copied so far are the first ones.
+-- `picks::parts::put_positions` meets its contract: the positions copied so far are the first ones.
 use mathlib.Core.Path.{_≡_, refl, _∙_}
 use Prim.Native.Nat.{_-_, _+_, _≤_}
 use lib.ListN.{length, getD, length-set}
 use lib.Seq.{paste, paste-zero}
 use native.Mathlib.Omega.{arith}
-use Rattle.run.proofs.Parting.{put-turn, put-end}
-use Rattle.run.proofs.parts.put_positions.Statement.{statement}
-use Rattle.run.proofs.parts.put_positions.Tie as tie
+use Rattle.picks.proofs.Parting.{put-turn, put-end}
+use Rattle.picks.proofs.parts.put_positions.Statement.{statement}
+use Rattle.picks.proofs.parts.put_positions.Tie as tie
 
 abbrev Inv-loop : tie.InvT-loop
 Inv-loop positions table₀ at j₀ table j = (j ≤ length positions) × (length table ≡ length table₀) × (table ≡ paste table₀ at positions j)

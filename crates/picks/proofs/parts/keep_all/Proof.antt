@@ -1,13 +1,13 @@
--- `run::parts::keep_all` meets its contract: the loop of `Parting`.
+-- `picks::parts::keep_all` meets its contract: the loop of `Parting`.
 use Prim.Native.Nat.{_-_}
 use native.Mathlib.Omega.{arith}
 use borrow.Author.Needs.{needs}
 use lib.ListN.{length}
 use Rattle.semantics.specs.Plan.{acceptNet}
 use Rattle.search.specs.Scene.{netOf}
-use Rattle.run.proofs.Parting.{KeptTo, kept-start, kept-room, kept-turn, kept-end}
-use Rattle.run.proofs.parts.keep_all.Statement.{statement}
-use Rattle.run.proofs.parts.keep_all.Tie as tie
+use Rattle.picks.proofs.Parting.{KeptTo, kept-start, kept-room, kept-turn, kept-end}
+use Rattle.picks.proofs.parts.keep_all.Statement.{statement}
+use Rattle.picks.proofs.parts.keep_all.Tie as tie
 
 abbrev Inv-loop : tie.InvT-loop
 Inv-loop net widths transitions table₀ i₀ table i = KeptTo net (netOf (acceptNet net)) table i

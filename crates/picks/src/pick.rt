@@ -6,9 +6,9 @@ use search::menu::list_bindings;
 use semantics::Fired;
 use semantics::Listed;
 use word::size::at_most;
-ghost use Rattle.run.specs.Parts.{variablesIn, inputsIn, outputsIn};
+ghost use Rattle.picks.specs.Parts.{variablesIn, inputsIn, outputsIn};
 ghost use Rattle.search.specs.Menu.{IsListed};
-ghost use Rattle.run.specs.Pick.{Pickable, IsPicked, Lists, Fires, FiresRow, row, IsFiredAt};
+ghost use Rattle.picks.specs.Pick.{Pickable, IsPicked, Lists, Fires, FiresRow, row, IsFiredAt};
 
 // The refusal that stops a pick, 0 for none, and the length of the marking after it.
 pub struct Picked {

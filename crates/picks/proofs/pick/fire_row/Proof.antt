@@ -1,11 +1,11 @@
--- `run::pick::fire_row` meets its contract: the parts of the table are those of the transition, and the part of the menu that is fired is the row.
+-- `picks::pick::fire_row` meets its contract: the parts of the table are those of the transition, and the part of the menu that is fired is the row.
 use mathlib.Core.Path.{sym}
 use native.Mathlib.Omega.{arith}
 use lib.Seq.{length-take-le}
-use Rattle.run.proofs.Firing.{row-fires, row-fired}
+use Rattle.picks.proofs.Firing.{row-fires, row-fired}
 use borrow.Author.Needs.{needs}
-use Rattle.run.proofs.pick.fire_row.Statement.{statement}
-use Rattle.run.proofs.pick.fire_row.Tie as tie
+use Rattle.picks.proofs.pick.fire_row.Statement.{statement}
+use Rattle.picks.proofs.pick.fire_row.Tie as tie
 
 slice-aggregate-fire-at : tie.Need-slice-aggregate-fire-at
 slice-aggregate-fire-at c = let few = (c .before .before .before .before .before .before .before .before .pre) .few .inputs in let l = (c .before .before .before .before .before .before .before .before .pre) .long in sym (length-take-le _ _ (omega arith))

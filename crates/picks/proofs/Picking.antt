@@ -47,11 +47,11 @@ use Rattle.tries.specs.World.{World}
 use Rattle.search.specs.Scene.{netOf, countsIn, sceneOf}
 use Rattle.search.specs.Search.{menuEnd}
 use Rattle.search.specs.Menu.{IsListed}
-use Rattle.run.specs.declared.pick.Picked.{Picked}
-use Rattle.run.specs.Parts.{variablesIn, inputsIn, outputsIn, guardIn, planIn, Parted}
-use Rattle.run.specs.Pick.{Leaves, row, FiresRow, Lists, IsFiredAt, Pickable, IsPicked}
-use Rattle.run.proofs.Parting.{head-inside}
-use Rattle.run.proofs.Firing.{part-is}
+use Rattle.picks.specs.declared.pick.Picked.{Picked}
+use Rattle.picks.specs.Parts.{variablesIn, inputsIn, outputsIn, guardIn, planIn, Parted}
+use Rattle.picks.specs.Pick.{Leaves, row, FiresRow, Lists, IsFiredAt, Pickable, IsPicked}
+use Rattle.picks.proofs.Parting.{head-inside}
+use Rattle.picks.proofs.Firing.{part-is}
 
 -- ── What was listed ──
 

@@ -32,7 +32,7 @@ use Rattle.net.proofs.Placed.{word-here, index-outline}
 use Rattle.patch.specs.Patch.{written}
 use Rattle.patch.proofs.Writing.{written-written, paste-written}
 use Rattle.search.specs.Scene.{netOf}
-use Rattle.run.specs.Parts.{FewParts, Parted, KeepsParts, NetRead, PartsKept}
+use Rattle.picks.specs.Parts.{FewParts, Parted, KeepsParts, NetRead, PartsKept}
 
 -- ── Positions copied ──
 

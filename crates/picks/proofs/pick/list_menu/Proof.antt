@@ -1,11 +1,11 @@
--- `run::pick::list_menu` meets its contract: the parts that are cut out of the positions are those of the transition.
+-- `picks::pick::list_menu` meets its contract: the parts that are cut out of the positions are those of the transition.
 use mathlib.Core.Path.{sym}
 use native.Mathlib.Omega.{arith}
 use lib.Seq.{length-take-le}
-use Rattle.run.proofs.Firing.{parts-listed}
+use Rattle.picks.proofs.Firing.{parts-listed}
 use borrow.Author.Needs.{needs}
-use Rattle.run.proofs.pick.list_menu.Statement.{statement}
-use Rattle.run.proofs.pick.list_menu.Tie as tie
+use Rattle.picks.proofs.pick.list_menu.Statement.{statement}
+use Rattle.picks.proofs.pick.list_menu.Tie as tie
 
 slice-aggregate-list-bindings : tie.Need-slice-aggregate-list-bindings
 slice-aggregate-list-bindings c = let few = (c .before .before .before .before .before .before .before .before .pre) .few .inputs in let l = (c .before .before .before .before .before .before .before .before .pre) .long in sym (length-take-le _ _ (omega arith))

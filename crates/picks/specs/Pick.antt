@@ -18,9 +18,9 @@ use Rattle.marking.specs.Marked.{markingRead}
 use Rattle.firing.specs.Fire.{FireableAt}
 use Rattle.tries.specs.World.{World}
 use Rattle.search.specs.Scene.{netOf, countsIn, sceneOf}
-use Rattle.run.specs.declared.pick.Picked.{Picked}
-use Rattle.run.specs.Start.{NetKnown}
-use Rattle.run.specs.Parts.{variablesIn, inputsIn, outputsIn, guardIn, planIn, FewParts, PartsKept}
+use Rattle.picks.specs.declared.pick.Picked.{Picked}
+use Rattle.picks.specs.Known.{NetKnown}
+use Rattle.picks.specs.Parts.{variablesIn, inputsIn, outputsIn, guardIn, planIn, FewParts, PartsKept}
 
 -- the marking after a firing at the front of the buffer, or the one before it and the refusal
 abbrev pub Leaves : Net → List ℕ → ℕ → Picked → List ℕ → Firing → Type 0

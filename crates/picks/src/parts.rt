@@ -8,7 +8,7 @@ ghost use lib.ListN.{length};
 ghost use Rattle.patch.specs.Patch.{written};
 ghost use Rattle.semantics.specs.Plan.{acceptNet};
 ghost use Rattle.search.specs.Scene.{netOf};
-ghost use Rattle.run.specs.Parts.{KeepsParts, NetRead, PartsKept};
+ghost use Rattle.picks.specs.Parts.{KeepsParts, NetRead, PartsKept};
 
 // Copies positions into a table.
 fn put_positions(positions: &[usize], table: &mut [usize], at: usize)

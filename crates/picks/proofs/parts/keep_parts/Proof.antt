@@ -1,8 +1,8 @@
--- `run::parts::keep_parts` meets its contract: four lists of eight written one after the other are the parts that read_parts told.
-use Rattle.run.proofs.Parting.{four-written, kept-parts}
+-- `picks::parts::keep_parts` meets its contract: four lists of eight written one after the other are the parts that read_parts told.
+use Rattle.picks.proofs.Parting.{four-written, kept-parts}
 use borrow.Author.Needs.{needs}
-use Rattle.run.proofs.parts.keep_parts.Statement.{statement}
-use Rattle.run.proofs.parts.keep_parts.Tie as tie
+use Rattle.picks.proofs.parts.keep_parts.Statement.{statement}
+use Rattle.picks.proofs.parts.keep_parts.Tie as tie
 
 add-put-positions-2 : tie.Need-add-put-positions-2
 add-put-positions-2 c = let f = (c .before .before .before .before .before .before .before .before .before .before .before .before .before .before .before .before .before .before .before .before .before .before .before .before .good) .1 .1 .1 .0 in search needs

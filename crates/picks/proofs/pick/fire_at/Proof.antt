@@ -1,13 +1,13 @@
--- `run::pick::fire_at` meets its contract: each return is a rule of `Firing`.
+-- `picks::pick::fire_at` meets its contract: each return is a rule of `Firing`.
 use mathlib.Core.Path.{sym}
 use native.Mathlib.Omega.{arith}
 use borrow.Author.Needs.{needs}
 use lib.ListN.{length}
 use lib.Seq.{length-take-le}
 use Rattle.firing.proofs.Firing.{enabled-at}
-use Rattle.run.proofs.Firing.{fired-refused, written-fits, copy-fits, fired-written}
-use Rattle.run.proofs.pick.fire_at.Statement.{statement}
-use Rattle.run.proofs.pick.fire_at.Tie as tie
+use Rattle.picks.proofs.Firing.{fired-refused, written-fits, copy-fits, fired-written}
+use Rattle.picks.proofs.pick.fire_at.Statement.{statement}
+use Rattle.picks.proofs.pick.fire_at.Tie as tie
 
 marking-share : tie.Need-slice-reshare-prefix-fire-enabled
 marking-share c = (c .before .before .before .before .before .before .before .before .before .pre) .inside
