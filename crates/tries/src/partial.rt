@@ -16,10 +16,10 @@ pub fn save(slots: &[u32]) -> [u32; 8]
     ensures { λ r. ⌜ IsSaved (now (slots .entry)) r ⌝ }
 {
     let mut saved = [0u32; 8];
-    let mut i = 0;
-    while i < slots.len() {
-        saved[i] = slots[i];
-        i += 1;
+    let mut n = 0;
+    while n < slots.len() {
+        saved[n] = slots[n];
+        n += 1;
     }
     saved
 }

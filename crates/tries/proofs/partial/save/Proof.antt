@@ -9,10 +9,10 @@ use Rattle.tries.proofs.partial.save.Statement.{statement}
 use Rattle.tries.proofs.partial.save.Tie as tie
 
 abbrev Inv-loop : tie.InvT-loop
-Inv-loop slots saved₀ i₀ saved i = (i ≤ length slots) × (length saved ≡ 8) × (take i saved ≡ take i slots)
+Inv-loop slots saved₀ n₀ saved n = (n ≤ length slots) × (length saved ≡ 8) × (take n saved ≡ take n slots)
 
 abbrev μ-loop : tie.MeasureT-loop
-μ-loop slots saved₀ i₀ saved i = length slots - i
+μ-loop slots saved₀ n₀ saved n = length slots - n
 
 loop-holds : tie.Need-loop-holds Inv-loop μ-loop
 loop-holds c = (omega arith, refl, refl)
@@ -23,14 +23,14 @@ loop-again c =
     let lp = c .before .before .loop in
     let f = lp .inv .1 in
     let k = c .before .loop-test .taken in
-    let n = st .pre in
-    (omega arith, length-set (lp .saved) (lp .i) (getD (st .args .slots .now) (lp .i) 0) ∙ f, copy-turn (lp .saved) (st .args .slots .now) (lp .i) (lp .inv .2) (omega arith) k)
+    let l = st .pre in
+    (omega arith, length-set (lp .saved) (lp .n) (getD (st .args .slots .now) (lp .n) 0) ∙ f, copy-turn (lp .saved) (st .args .slots .now) (lp .n) (lp .inv .2) (omega arith) k)
 
 returns : tie.Need-returns Inv-loop μ-loop
 returns c =
     let st = c .before .before in
     let lp = c .before .loop in
-    record { few = st .pre; full = lp .inv .1; front = copy-kept (lp .saved) (st .args .slots .now) (lp .i) (lp .inv .2) (omega arith) }
+    record { few = st .pre; full = lp .inv .1; front = copy-kept (lp .saved) (st .args .slots .now) (lp .n) (lp .inv .2) (omega arith) }
 
 pub save-spec : {M : Type 1} → statement M
 save-spec =
