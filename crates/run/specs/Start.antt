@@ -1,19 +1,16 @@
 -- What a run starts from, as the code has it.
 -- Rests on semantics/specs/Calls, net/specs/Places, marking/specs/Marked and search/specs/Scene.
 use mathlib.Core.Path.{_≡_}
-use mathlib.Core.List.{List, map}
+use mathlib.Core.List.{List}
 use mathlib.Core.Option.{none}
 use Prim.Native.Nat.{ℕ, min, _≤_}
 use lib.ListN.{length, take}
 use Rattle.semantics.specs.Reading.{read, refused}
-use Rattle.semantics.specs.Net.{Transition, Net}
-use Rattle.semantics.specs.Plan.{acceptNet}
+use Rattle.semantics.specs.Net.{Net}
 use Rattle.semantics.specs.Marking.{Entry, firstUnknown, firstMalformed, countsOf}
 use Rattle.semantics.specs.Calls.{start}
 use Rattle.expression.specs.declared.read.Skipped.the-variants.{Next, Refused}
 use Rattle.net.specs.declared.index.NetIndex.{NetIndex}
-use Rattle.net.specs.Skim.{width}
-use Rattle.net.specs.Places.{placesAt, PlacesFit}
 use Rattle.marking.specs.Marked.{markingRead}
 use Rattle.picks.specs.Known.{NetKnown}
 
