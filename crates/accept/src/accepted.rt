@@ -10,7 +10,7 @@ use plans::plan::Reviewed;
 use plans::plan::read_plans;
 ghost use mathlib.Core.Path.{_≡_};
 ghost use lib.ListN.{length};
-ghost use Rattle.semantics.specs.Plan.{acceptFront, acceptNet};
+ghost use Rattle.semantics.specs.Plan.{acceptNet};
 ghost use Rattle.expression.specs.declared.read.Skipped.the-variants.{Refused};
 ghost use Rattle.expression.specs.Skip.{forget, skipped};
 ghost use Rattle.net.specs.Skim.{changed, netOutline};
@@ -120,13 +120,6 @@ fn accept(words: &[u32], least: usize) -> NetIndex
         widths: widths,
         transitions_at: transitions,
     }
-}
-
-// The net at the front of words.
-pub fn accept_front(words: &[u32]) -> NetIndex
-    ensures { λ r. ⌜ netRead r ≡ changed netOutline (acceptFront (now (words .entry))) ⌝ }
-{
-    accept(words, 0)
 }
 
 // The net that the words are.
