@@ -63,7 +63,7 @@ fn fire_taken(
 }
 
 // 13, 14, 15 and 16 in that order, or the new marking is written. The conjuncts and arcs of the transition stand at these positions.
-pub fn fire_arcs(
+fn fire_arcs(
     net: &[u32],
     places: &[usize],
     conjuncts: &[usize],
