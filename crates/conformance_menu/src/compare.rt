@@ -12,7 +12,7 @@ use conformance_report::report::zeros;
 use conformance_report::tally::Tally;
 use conformance_report::tally::add;
 use conformance_report::tally::differ;
-use search::menu::menu;
+use menus::menu::menu;
 use semantics::Listed;
 
 // The answer that is due: a refusal with its number and position, or with 0 for the number N, W and how many words of the list are written.

@@ -18,7 +18,8 @@ use Rattle.marking.specs.Marked.{bindingRead}
 use Rattle.occurrence.specs.declared.situation.Situation.{Situation}
 use Rattle.occurrence.specs.Situation.{Prepared, IsSituation}
 use Rattle.occurrence.proofs.Testing.{unbound-refused, bound-read, bound-length, bound-lent}
-use Rattle.firing.specs.Fire.{FireableAt, Fireable, fireEnd, IsFiredAt, IsFired}
+use Rattle.changes.specs.Changes.{fireEnd}
+use Rattle.firing.specs.Fire.{FireableAt, Fireable, IsFiredAt, IsFired}
 
 pub fire-refused : (ws : List ℕ) (t : ℕ) (ms bs buffer : List ℕ) {s : Situation} {n p : ℕ} → IsSituation ws t ms s → s .end ≡ Refused n p → fireEnd (FireRefused n p) buffer ≡ fireCall ws t ms bs buffer
 unfolding fireCall

@@ -37,10 +37,10 @@ use Rattle.arcs.proofs.Keyed.{total-moving, flow-keyed}
 use Rattle.occurrence.specs.Answers.{IsEnabledAt, IsTaken}
 use Rattle.occurrence.proofs.Covering.{taken-unguarded, taken-unmoved}
 use Rattle.occurrence.proofs.Reading.{inputs-told, outputs-told, enabled-told}
-use Rattle.firing.specs.Keys.{keysFrom}
-use Rattle.firing.specs.Fire.{FireableAt, fireEnd}
-use Rattle.firing.specs.Changes.{Keyed, Moves, after, within, Sees, Stepping, IsStep}
-use Rattle.firing.proofs.Sorted.{sort-in, keys-all}
+use Rattle.changes.specs.Keys.{keysFrom}
+use Rattle.firing.specs.Fire.{FireableAt}
+use Rattle.changes.specs.Changes.{Keyed, Moves, after, within, Sees, Stepping, IsStep, fireEnd}
+use Rattle.changes.proofs.Sorted.{sort-in, keys-all}
 
 -- flows that were gathered
 record Gathers (ws ps : List ℕ) (o : Option (List Flow)) (ks as′ : List ℕ) : Type 0 where

@@ -14,7 +14,7 @@ use Rattle.semantics.specs.ReadNet.{readTransition}
 use Rattle.semantics.specs.Lists.{Every}
 use Rattle.semantics.specs.Marking.{Entry, countsOf}
 use Rattle.semantics.specs.Run.{fire}
-use Rattle.semantics.specs.Calls.{FireEnd, firedBy}
+use Rattle.semantics.specs.Calls.{firedBy}
 use Rattle.expression.specs.Evaluate.{lent}
 use Rattle.net.specs.declared.index.TransitionIndex.{TransitionIndex}
 use Rattle.net.specs.Skim.{outline}
@@ -23,6 +23,7 @@ use Rattle.net.specs.Places.{placesAt}
 use Rattle.marking.specs.Marked.{markingRead, Begins}
 use Rattle.arcs.specs.Keys.{IsGathered}
 use Rattle.occurrence.specs.Answers.{IsEnabledAt}
+use Rattle.changes.specs.Changes.{fireEnd}
 
 -- a transition of a net, whose conjuncts and arcs stand at these positions, a marking and a binding, with what the code has of them
 pub record FireableAt (ws ps gs is os ms begins bs : List ℕ) : Type 0 where
@@ -47,10 +48,6 @@ pub record FireableAt (ws ps gs is os ms begins bs : List ℕ) : Type 0 where
 -- the same by the index of the transition
 abbrev pub Fireable : List ℕ → List ℕ → TransitionIndex → List ℕ → List ℕ → List ℕ → Type 0
 Fireable ws ps t ms begins bs = FireableAt ws ps (outlined t .guard) (outlined t .inputs) (outlined t .outputs) ms begins bs
-
--- answer and buffer, as the definition of the call has them
-abbrev pub fireEnd : Fired → List ℕ → FireEnd
-fireEnd r buffer = record { answer = r; buffer = buffer }
 
 -- the answer, and the buffer after it
 pub record IsFiredAt (ws ps gs is os ms begins bs buffer : List ℕ) (r : Fired) (after : List ℕ) : Type 0 where

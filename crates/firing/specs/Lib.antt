@@ -1,3 +1,1 @@
-pub mod Keys
 pub mod Fire
-pub mod Changes

@@ -1,6 +1,6 @@
 // The call fire: the marking after a step, written to a second buffer, or the refusal; a refusal leaves the buffer as it was.
-use crate::step::fire_keys;
 use arcs::gather::gather;
+use changes::step::fire_keys;
 use expression::read::Skipped;
 use marking::binding::read_binding;
 use net::index::TransitionIndex;
@@ -13,7 +13,8 @@ ghost use Prim.Native.Nat.{_≤_};
 ghost use lib.ListN.{length};
 ghost use Rattle.semantics.specs.Calls.{fireCall};
 ghost use Rattle.net.specs.Places.{PlacesFit};
-ghost use Rattle.firing.specs.Fire.{FireableAt, IsFiredAt, EnabledAt, IsFiredEnabled, TakenAt, IsFiredTaken, Fireable, IsFired, fireEnd};
+ghost use Rattle.changes.specs.Changes.{fireEnd};
+ghost use Rattle.firing.specs.Fire.{FireableAt, IsFiredAt, EnabledAt, IsFiredEnabled, TakenAt, IsFiredTaken, Fireable, IsFired};
 
 // 14, 15 and 16 in that order, or the new marking is written. The first n keys and amounts are what an enabled binding takes.
 fn fire_taken(

@@ -24,7 +24,7 @@ pub extern "C" fn gimletlemon_menu(
     ensures { λ r. ⌜ now (menu .exit) ≡ menuCall (now (net .entry)) transition (now (marking .entry)) budget (now (menu .entry)) .buffer ⌝ }
 {
     tell_menu(
-        search::menu::menu(net, transition, marking, budget, menu),
+        menus::menu::menu(net, transition, marking, budget, menu),
         bindings,
         tries,
         position,

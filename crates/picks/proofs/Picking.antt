@@ -43,10 +43,10 @@ use Rattle.marking.proofs.Bound.{ranged-small}
 use Rattle.occurrence.proofs.Reading.{binding-lent}
 use Rattle.firing.specs.Fire.{FireableAt}
 use Rattle.rows.proofs.Rows.{row-room}
-use Rattle.tries.specs.World.{World}
+use Rattle.arrivals.specs.World.{World}
 use Rattle.search.specs.Scene.{netOf, countsIn, sceneOf}
 use Rattle.search.specs.Search.{menuEnd}
-use Rattle.search.specs.Menu.{IsListed}
+use Rattle.menus.specs.Menu.{IsListed}
 use Rattle.picks.specs.declared.pick.Picked.{Picked}
 use Rattle.picks.specs.Parts.{variablesIn, inputsIn, outputsIn, guardIn, planIn, Parted}
 use Rattle.picks.specs.Pick.{Leaves, row, FiresRow, Lists, IsFiredAt, Pickable, IsPicked}

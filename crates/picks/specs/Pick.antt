@@ -16,7 +16,7 @@ use Rattle.semantics.specs.Calls.{limits}
 use Rattle.net.specs.Places.{PlacesFit}
 use Rattle.marking.specs.Marked.{markingRead}
 use Rattle.firing.specs.Fire.{FireableAt}
-use Rattle.tries.specs.World.{World}
+use Rattle.arrivals.specs.World.{World}
 use Rattle.search.specs.Scene.{netOf, countsIn, sceneOf}
 use Rattle.picks.specs.declared.pick.Picked.{Picked}
 use Rattle.picks.specs.Known.{NetKnown}

@@ -1,13 +1,13 @@
 // One pick: the menu of its transition, the binding at its index, and the marking after it.
 use firing::fire::fire_enabled;
 use marking::begins::index_marking;
+use menus::menu::list_bindings;
 use patch::words::copy_words;
-use search::menu::list_bindings;
 use semantics::Fired;
 use semantics::Listed;
 use word::size::at_most;
 ghost use Rattle.picks.specs.Parts.{variablesIn, inputsIn, outputsIn};
-ghost use Rattle.search.specs.Menu.{IsListed};
+ghost use Rattle.menus.specs.Menu.{IsListed};
 ghost use Rattle.picks.specs.Pick.{Pickable, IsPicked, Lists, Fires, FiresRow, row, IsFiredAt};
 
 // The refusal that stops a pick, 0 for none, and the length of the marking after it.

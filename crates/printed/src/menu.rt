@@ -18,7 +18,7 @@ pub fn put_menu(
 {
     let mut menu = [0u32; 4096];
     let number = transition as usize;
-    match search::menu::menu(net, transition, marking, 1000000, &mut menu) {
+    match menus::menu::menu(net, transition, marking, 1000000, &mut menu) {
         Listed::Found(n, w) => {
             let next = put_numbers(out, 0, number, n as usize, w as usize);
             put_rows(out, next, &menu, width, n as usize)

@@ -1,9 +1,9 @@
 // The call run: picks fired one after the other, each from the marking that the one before it left.
 use crate::begin::begin;
 use expression::read::Skipped;
+use menus::menu::clear;
 use picks::parts::keep_all;
 use picks::pick::pick_once;
-use search::menu::clear;
 use semantics::Outcome;
 use word::size::at_most;
 ghost use mathlib.Core.Path.{_≡_};

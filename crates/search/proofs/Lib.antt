@@ -5,6 +5,3 @@ pub mod Worlds
 pub mod Values
 pub mod Steps
 pub mod Walking
-pub mod Clearing
-pub mod Listing
-pub mod Menus

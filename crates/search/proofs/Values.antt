@@ -24,7 +24,7 @@ use Rattle.occurrence.specs.Answers.{IsEnabledAt}
 use Rattle.occurrence.proofs.Reading.{enabled-told}
 use Rattle.rows.specs.Rows.{valuesOfWords, IsValue}
 use Rattle.tries.specs.Partial.{partialOf}
-use Rattle.tries.specs.World.{World}
+use Rattle.arrivals.specs.World.{World}
 use Rattle.tries.proofs.Slots.{slots-lent}
 
 -- ── Words ──

@@ -24,12 +24,12 @@ use Rattle.occurrence.specs.Answers.{IsEnabledAt}
 use Rattle.plans.specs.declared.element.Element.{Element as CodeElement}
 use Rattle.plans.specs.Plan.{sorted}
 use Rattle.rows.specs.Rows.{valuesOfWords, IsValue, Listing, listingOf}
-use Rattle.tries.specs.declared.step.Step.{Step}
+use Rattle.arrivals.specs.declared.step.Step.{Step}
 use Rattle.tries.specs.Partial.{partialOf, IsTried, IsSaved}
 use Rattle.tries.specs.Known.{Knows}
-use Rattle.tries.specs.Step.{Safe, Ready, triesBy, IsArrival}
-use Rattle.tries.specs.World.{World}
-use Rattle.tries.proofs.Tries.{arrival-ready, arrival-tries, tries-length}
+use Rattle.arrivals.specs.Step.{Safe, Ready, triesBy, IsArrival}
+use Rattle.arrivals.specs.World.{World}
+use Rattle.arrivals.proofs.Tries.{arrival-ready, arrival-tries, tries-length}
 use Rattle.search.specs.declared.progress.Progress.{Progress}
 use Rattle.search.specs.Search.{costFrom, rowsFrom, Unspent, Ended, IsLeaf}
 use Rattle.search.proofs.Trying.{rowsOver}

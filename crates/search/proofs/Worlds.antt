@@ -15,7 +15,7 @@ use Rattle.semantics.proofs.Spans.{then-read}
 use Rattle.semantics.proofs.Accepted.{SoundTransition, transition-sound}
 use Rattle.net.proofs.Located.{At, transition-parts}
 use Rattle.net.proofs.Placed.{word-here, variables-fit}
-use Rattle.tries.specs.World.{World}
+use Rattle.arrivals.specs.World.{World}
 
 -- an element that was read: its sort is in the word at its position
 pub record ElementRead (ws : List ℕ) (at : ℕ) (e : Element) : Type 0 where

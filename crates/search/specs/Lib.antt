@@ -1,3 +1,2 @@
 pub mod Scene
 pub mod Search
-pub mod Menu

@@ -1,4 +1,4 @@
-// The search for enabled bindings over the plan of a transition, and the call menu.
+// The search for enabled bindings over the plan of a transition.
 
 // What a search has come to so far.
 pub mod progress;
@@ -6,5 +6,3 @@ pub mod progress;
 pub mod leaf;
 // The search, by recursion over the plan.
 pub mod walk;
-// The call menu.
-pub mod menu;

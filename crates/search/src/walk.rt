@@ -1,12 +1,12 @@
 // The search: from a partial binding over the rest of the plan, each try counted against the budget.
 use crate::leaf::leaf;
 use crate::progress::Progress;
+use arrivals::step::arrive;
+use arrivals::step::try_at;
 use plans::element::Element;
 use plans::element::element_of;
 use tries::partial::restore;
 use tries::partial::save;
-use tries::step::arrive;
-use tries::step::try_at;
 use word::fields::payload;
 ghost use mathlib.Core.Path.{_≡_};
 ghost use Prim.Native.Nat.{_≤_, _<_};
@@ -17,7 +17,7 @@ ghost use Rattle.semantics.proofs.Leaves.{Sound};
 ghost use Rattle.plans.specs.Plan.{sorted};
 ghost use Rattle.rows.specs.Rows.{listingOf};
 ghost use Rattle.tries.specs.Partial.{partialOf};
-ghost use Rattle.tries.specs.World.{World};
+ghost use Rattle.arrivals.specs.World.{World};
 ghost use Rattle.search.specs.Scene.{sceneOf};
 ghost use Rattle.search.specs.Search.{costFrom, rowsFrom, Held, Unspent, Ended};
 

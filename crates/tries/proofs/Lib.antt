@@ -5,10 +5,3 @@ pub mod Agreeing
 pub mod Knowing
 pub mod Ranging
 pub mod Solving
-pub mod Parting
-pub mod Aiming
-pub mod Arriving
-pub mod Attempting
-pub mod Heads
-pub mod Colours
-pub mod Tries

@@ -2,7 +2,8 @@
 -- Rests on semantics/specs/Order and word/specs/Fields.
 use mathlib.Core.Path.{_≡_}
 use mathlib.Core.Bool.{true}
-use Prim.Native.Nat.{ℕ, _+_, _≤_, _/_, _%_}
+use mathlib.Core.List.{List, [], _∷_}
+use Prim.Native.Nat.{ℕ, zero, suc, _+_, _≤_, _/_, _%_}
 use lib.IntN.{ℤ}
 use lib.Signed.{leZ}
 use lib.ListN.{length}
@@ -18,3 +19,8 @@ valueAt w i = signed ((w / 16384 % 16384 + i) % 16384)
 pub record CountsValues (w r : ℕ) : Type 0 where
   pub few : r ≤ 16384
   pub counts : leZ (rangeWord w .low) (rangeWord w .high) ≡ true → r ≡ length (valuesOfRange (rangeWord w))
+
+-- so many numbers from i on
+unfoldable pub upFrom : ℕ → ℕ → List ℕ
+upFrom i zero = []
+upFrom i (suc n) = i ∷ upFrom (suc i) n

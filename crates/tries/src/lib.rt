@@ -1,4 +1,4 @@
-// The tries of a plan's elements: what an arrival at an element tries, and the partial binding that each try goes on with.
+// The tries of a plan's elements, by their sorts, and the partial binding that each try goes on with.
 
 // Partial bindings.
 pub mod partial;
@@ -10,5 +10,3 @@ pub mod known;
 pub mod solve;
 // A range try: a variable takes each value of its range.
 pub mod range;
-// An arrival at an element, and its tries.
-pub mod step;

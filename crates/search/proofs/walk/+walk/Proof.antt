@@ -25,8 +25,8 @@ use Rattle.search.proofs.leaf.leaf.Reads as leaf-reads
 use Rattle.search.proofs.walk.element_at.Reads as element-at-reads
 use Rattle.tries.proofs.partial.restore.Reads as restore-reads
 use Rattle.tries.proofs.partial.save.Reads as save-reads
-use Rattle.tries.proofs.step.arrive.Reads as arrive-reads
-use Rattle.tries.proofs.step.try_at.Reads as try-at-reads
+use Rattle.arrivals.proofs.step.arrive.Reads as arrive-reads
+use Rattle.arrivals.proofs.step.try_at.Reads as try-at-reads
 use Rattle.search.proofs.walk.+walk.{statement}
 use Rattle.search.proofs.walk.+walk.Tie.{close}
 

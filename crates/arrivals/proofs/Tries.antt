@@ -1,0 +1,181 @@
+-- In an accepted net and marking, what an arrival tries from positions is what semantics tries. The idea: each arc, conjunct and range of the
+-- transition stands at its position; so a match goes through the colours of its place (Colours), held against the first words of its
+-- components (Heads), a solve takes the side that semantics takes (Solving), and a range counts its values up (Ranging).
+use mathlib.Core.Path.{_≡_, sym, ap, _∙_, subst, fun-ext}
+use mathlib.Core.Logic.{_⊎_, inl, inr}
+use mathlib.Core.Bool.{true, false}
+use mathlib.Core.List.{List, [], _∷_, map, map-map}
+use mathlib.Core.Option.{Option, some, bind}
+use Prim.Native.Nat.{ℕ, zero, suc, _+_, _≤_, _<_}
+use native.Mathlib.Omega.{arith}
+use borrow.Author.Tests.{ltb-true, ltb-false}
+use lib.Dec.{ltb}
+use lib.IntN.{ℤ}
+use lib.ListN.{length, getD, getElem?, set, take, length-map, length-replicate}
+use Rattle.semantics.specs.Expression.{houseTable}
+use Rattle.semantics.specs.Reading.{read}
+use Rattle.semantics.specs.Net.{Place, Arc, Conjunct, rangesAt}
+use Rattle.semantics.specs.ReadNet.{readArc, readConjunct}
+use Rattle.semantics.specs.Order.{valuesOfRange}
+use Rattle.semantics.specs.Plan.{newlyBound}
+use Rattle.semantics.specs.Tries.{Partial, isBoundIn, coloursOn, matched, tries}
+use Rattle.semantics.specs.Calls.{Situation}
+use Rattle.semantics.proofs.Tests.{either, Every-at}
+use Rattle.semantics.proofs.Members.{none-some, at-length, length-at, at-member}
+use Rattle.semantics.proofs.Accepted.{Valued, SoundArc, SoundTransition, transition-sound}
+use Rattle.semantics.proofs.Fitness.{FitMatch, fit-match, FitSolve, fit-solve, FitRange, fit-range}
+use Rattle.word.specs.Fields.{rangeWord}
+use Rattle.net.specs.Places.{rangesFrom, placesAt}
+use Rattle.net.proofs.Located.{At, Parts, transition-parts}
+use Rattle.net.proofs.Placed.{places-length, variables-placed}
+use Rattle.plans.specs.declared.element.Element.{Element}
+use Rattle.plans.specs.declared.element.Sort.{Sort}
+use Rattle.plans.specs.declared.element.Sort.the-variants.{Match, Solve, Range as InRange}
+use Rattle.plans.specs.Plan.{sorted}
+use Rattle.marking.specs.Marked.{coloursAt}
+use Rattle.marking.proofs.Ranked.{colours-length}
+use Rattle.arrivals.specs.declared.step.Step.{Step}
+use Rattle.tries.specs.Partial.{matchedBy}
+use Rattle.tries.specs.Solve.{solvedAt, HasConjunct}
+use Rattle.tries.specs.Range.{valueAt, upFrom}
+use Rattle.arrivals.specs.Step.{Aimed, ReadyBy, Ready, triesOf, triesBy, Told, IsArrival}
+use Rattle.arrivals.specs.World.{World}
+use Rattle.arrivals.proofs.Attempting.{up-length}
+use Rattle.tries.proofs.Binding.{range-at}
+use Rattle.tries.proofs.Ranging.{range-values}
+use Rattle.tries.proofs.Solving.{side-is}
+use Rattle.arrivals.proofs.Heads.{heads-match}
+use Rattle.arrivals.proofs.Colours.{place-inside, place-colours}
+
+-- ── The number of tries ──
+
+-- whatever the words
+pub tries-length : (ws : List ℕ) (ranges v : ℕ) (ms : List ℕ) (r : Step) (p : Partial) → length (triesBy ws ranges v ms r p) ≡ r .count
+tries-length ws ranges v ms r p = by (r .element .sort)
+  where
+    by : (k : Sort) → length (triesOf ws ranges v ms r p k) ≡ r .count
+    by (Match k) = length-map (coloursAt ms (r .width) (r .count) (r .from)) (λ c. matchedBy (rangesFrom ws v ranges) (take (r .width) (r .parts)) c p) ∙ colours-length ms (r .width) (r .count) (r .from)
+    by (Solve k) = length-replicate (r .count) (solvedAt ws (rangesFrom ws v ranges) v p (r .from))
+    by (InRange n) = length-map (upFrom 0 (r .count)) (λ i. some (set p n (some (valueAt (getD ws (ranges + n) 0) i)))) ∙ up-length 0 (r .count)
+
+-- ── Positions ──
+
+-- the position of a member by its number
+position-at : {A : Type 0} (f : A → ℕ) (l : List A) (k : ℕ) (a : A) → getElem? l k ≡ some a → getD (map f l) k 0 ≡ f a
+position-at f [] k a e = none-some e
+position-at f (x ∷ l) zero a e = let q : x ≡ a = cc in ap f q
+position-at f (x ∷ l) (suc k) a e = position-at f l k a e
+
+module _ {ws ps : List ℕ} {position v : ℕ} {inputs conjuncts elements ms begins : List ℕ} {s : Situation} (w : World ws ps position v inputs conjuncts elements ms begins s) where
+  parts : Parts ws (s .net .places) (s .transition)
+  parts = transition-parts ws (s .net .places) position (s .transition) (w .after) (w .there)
+
+  sound : SoundTransition (s .net .places) (s .transition)
+  sound = transition-sound ws (s .net .places) position (s .transition) (w .after) (w .there)
+
+  ranges-here : rangesFrom ws v (position + 1) ≡ s .transition .variables
+  ranges-here = ap (λ (n : ℕ). rangesFrom ws n (position + 1)) (w .many) ∙ sym (variables-placed ws (s .net .places) position (s .transition) (w .after) (w .there))
+
+  -- an input arc
+  module _ (k : ℕ) (a : Arc) (e : getElem? (s .transition .inputs) k ≡ some a) where
+    arc-inside : k < length inputs
+    arc-inside = rw (w .arcs, length-map (s .transition .inputs) (λ (a : Arc). a .position)) (at-length (s .transition .inputs) k a e)
+
+    arc-here : (next : ℕ) × (readArc ws (placesAt ws ps) v (getD inputs k 0) ≡ read a next)
+    arc-here =
+        let h = Every-at (At (readArc ws (s .net .places) (length (s .transition .variables))) (λ (a : Arc). a .position)) (parts .inputs) (at-member (s .transition .inputs) k a e) in
+        let i : getD inputs k 0 ≡ a .position = ap (λ (l : List ℕ). getD l k 0) (w .arcs) ∙ position-at (λ (a : Arc). a .position) (s .transition .inputs) k a e in (
+          h .next,
+          ap (readArc ws (placesAt ws ps) v) i
+              ∙ ap (λ (places : List Place). readArc ws places v (a .position)) (sym (w .placed))
+              ∙ ap (λ (n : ℕ). readArc ws (s .net .places) n (a .position)) (w .many)
+              ∙ h .reads,
+        )
+
+    arc-sound : SoundArc (s .net .places) (length (s .transition .variables)) a
+    arc-sound = Every-at (SoundArc (s .net .places) (length (s .transition .variables))) (sound .inputs) (at-member (s .transition .inputs) k a e)
+
+    arc-few : a .place < 64
+    arc-few =
+        let l = arc-sound .there in
+        let few = w .fits .few in
+        let m : length (s .net .places) ≡ length ps = ap length (w .placed) ∙ places-length ws ps in
+        omega arith
+
+  -- a conjunct
+  module _ (k : ℕ) (c : Conjunct) (e : getElem? (s .transition .guard) k ≡ some c) where
+    conjunct-inside : k < length conjuncts
+    conjunct-inside = rw (w .guards, length-map (s .transition .guard) (λ (c : Conjunct). c .position)) (at-length (s .transition .guard) k c e)
+
+    conjunct-here : (next : ℕ) × (readConjunct ws v (getD conjuncts k 0) ≡ read c next)
+    conjunct-here =
+        let h = Every-at (At (readConjunct ws (length (s .transition .variables))) (λ (c : Conjunct). c .position)) (parts .guard) (at-member (s .transition .guard) k c e) in
+        let i : getD conjuncts k 0 ≡ c .position = ap (λ (l : List ℕ). getD l k 0) (w .guards) ∙ position-at (λ (c : Conjunct). c .position) (s .transition .guard) k c e in
+        (h .next, ap (readConjunct ws v) i ∙ ap (λ (n : ℕ). readConjunct ws n (c .position)) (w .many) ∙ h .reads)
+
+  -- ── An arrival ──
+
+  module _ {e : Element} {b : List ℕ} {r : Step} (a : IsArrival ws ps position v inputs conjuncts ms begins e b r) where
+    -- a conjunct that is tried stands at its position
+    ready-by : (k : Sort) → Told ws ps position v inputs conjuncts ms begins e r k → ReadyBy ws v r k
+    ready-by (Match k) t = tt
+    ready-by (Solve k) t = λ h. by h (either (ltb k (length conjuncts)))
+      where
+        by : 0 < r .count → (ltb k (length conjuncts) ≡ true) ⊎ (ltb k (length conjuncts) ≡ false) → HasConjunct ws v (r .from)
+        by h (inl q) =
+            let l = ltb-true k (length conjuncts) q in
+            let m = length-at (s .transition .guard) k (rw (w .guards, length-map (s .transition .guard) (λ (c : Conjunct). c .position)) at l) in
+            let c = conjunct-here k (m .0) (m .1) in
+            record { conjunct = m .0; next = c .0; reads = rw (t .0 l .1) (c .1) }
+        by h (inr q) = let z = t .1 (ltb-false k (length conjuncts) q) in absurd (omega arith)
+    ready-by (InRange n) t = tt
+
+    module _ (p : Partial) (n : ℕ) (ns : List ℕ) where
+      tries-match : (k : ℕ) → Told ws ps position v inputs conjuncts ms begins e r (Match k) → FitMatch (s .transition) (isBoundIn p) k (n ∷ ns) → triesOf ws (position + 1) v ms r p (Match k) ≡ tries houseTable (s .net) (s .transition) (s .counts) (sorted (Match k)) p
+      unfolding tries
+      tries-match k t f = rw (f .named) (ap (λ (l : List (List ℤ)). map (λ c. matchedBy (rangesFrom ws v (position + 1)) (take (r .width) (r .parts)) c p) l) same ∙ ap (λ (g : List ℤ → Option Partial). map g (coloursOn (s .net) (s .counts) (f .arc .place))) (fun-ext held))
+        where
+          inside : (getD begins (f .arc .place) 0 ≤ getD begins (f .arc .place + 1) 0) × (getD begins (f .arc .place + 1) 0 ≤ length ms)
+          inside = place-inside (s .net) ms (w .entries) (w .end) (w .marked) begins (w .begun) (f .arc .place) (arc-few k (f .arc) (f .named))
+
+          aim : Aimed begins (f .arc) r
+          aim =
+              let h = arc-here k (f .arc) (f .named) in
+              t .0 (arc-inside k (f .arc) (f .named)) .aimed (f .arc) (h .0) (h .1) (inside .0) (inside .1)
+
+          width : r .width ≡ length (rangesAt (s .net .places) (f .arc .place))
+          width = aim .wide ∙ arc-sound k (f .arc) (f .named) .width
+
+          same : coloursAt ms (r .width) (r .count) (r .from) ≡ coloursOn (s .net) (s .counts) (f .arc .place)
+          same = rw (aim .many, aim .from, w .counted) (place-colours (s .net) ms (w .entries) (w .end) (w .marked) begins (w .begun) (f .arc .place) (arc-few k (f .arc) (f .named)) (r .width) width)
+
+          held : (c : List ℤ) → matchedBy (rangesFrom ws v (position + 1)) (take (r .width) (r .parts)) c p ≡ matched (s .transition .variables) (f .arc .components) c p
+          held c = rw ranges-here (heads-match (s .transition .variables) (take (r .width) (r .parts)) (f .arc .components) (aim .begin) c p)
+
+      tries-solve : (k : ℕ) → Told ws ps position v inputs conjuncts ms begins e r (Solve k) → FitSolve (s .transition) (isBoundIn p) k (n ∷ ns) → triesOf ws (position + 1) v ms r p (Solve k) ≡ tries houseTable (s .net) (s .transition) (s .counts) (sorted (Solve k)) p
+      unfolding tries bind
+      tries-solve k t f =
+          let h = conjunct-here k (f .conjunct) (f .named) in
+          let g = t .0 (conjunct-inside k (f .conjunct) (f .named)) in
+          rw (f .named, f .found, g .0, g .1, h .1, ranges-here, side-is (isBoundIn p) (f .conjunct) (f .answer) (f .found))
+
+      tries-range : (k : ℕ) → Told ws ps position v inputs conjuncts ms begins e r (InRange k) → FitRange (s .transition) (isBoundIn p) k (n ∷ ns) → triesOf ws (position + 1) v ms r p (InRange k) ≡ tries houseTable (s .net) (s .transition) (s .counts) (sorted (InRange k)) p
+      unfolding tries
+      tries-range k t f =
+          let x = getD ws (position + 1 + k) 0 in
+          let l : k < v = rw (w .many) (f .there) in
+          let g : getElem? (s .transition .variables) k ≡ some (rangeWord x) = rw ranges-here at (range-at ws v (position + 1) k l) in
+          let o = Every-at Valued (sound .valued) (at-member (s .transition .variables) k (rangeWord x) g) .ordered in
+          rw (g, t .0 l .counts o)
+          (sym (map-map (λ z. some (set p k (some z))) (valueAt x) (upFrom 0 (length (valuesOfRange (rangeWord x))))) ∙ ap (map (λ z. some (set p k (some z)))) (range-values x o))
+
+      tries-by : (k : Sort) → Told ws ps position v inputs conjuncts ms begins e r k → newlyBound (s .transition) (isBoundIn p) (sorted k) ≡ n ∷ ns → triesOf ws (position + 1) v ms r p k ≡ tries houseTable (s .net) (s .transition) (s .counts) (sorted k) p
+      tries-by (Match k) t h = tries-match k t (fit-match (s .transition) (isBoundIn p) k n ns h)
+      tries-by (Solve k) t h = tries-solve k t (fit-solve (s .transition) (isBoundIn p) k n ns h)
+      tries-by (InRange k) t h = tries-range k t (fit-range (s .transition) (isBoundIn p) k n ns h)
+
+    pub arrival-ready : Ready ws v r
+    arrival-ready = subst (λ (d : Element). ReadyBy ws v r (d .sort)) (sym (a .element)) (ready-by (e .sort) (a .told))
+
+    pub arrival-tries : (p : Partial) (n : ℕ) (ns : List ℕ) → newlyBound (s .transition) (isBoundIn p) (sorted (e .sort)) ≡ n ∷ ns → triesBy ws (position + 1) v ms r p ≡ tries houseTable (s .net) (s .transition) (s .counts) (sorted (e .sort)) p
+    arrival-tries p n ns h = ap (λ (d : Element). triesOf ws (position + 1) v ms r p (d .sort)) (a .element) ∙ tries-by p n ns (e .sort) (a .told) h

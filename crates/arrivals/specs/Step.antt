@@ -1,0 +1,91 @@
+-- What an arrival at an element tries, told from positions. proofs/Tries.antt shows that in an accepted net and marking it is what semantics says.
+-- Rests on semantics/specs/Tries, marking/specs/Marked, Partial, Known, Solve and Range.
+use mathlib.Core.Path.{_≡_}
+use mathlib.Core.List.{List, [], _∷_, map}
+use mathlib.Core.Option.{Option, some}
+use Prim.Native.Nat.{ℕ, _+_, _*_, _-_, _/_, _≤_, _<_}
+use lib.ListN.{length, getD, set, take, replicate}
+use Rattle.semantics.specs.Expression.{Expression}
+use Rattle.semantics.specs.Reading.{read, several}
+use Rattle.semantics.specs.Net.{Arc}
+use Rattle.semantics.specs.ReadNet.{readExpression, readArc}
+use Rattle.semantics.specs.Tries.{Partial}
+use Rattle.expression.proofs.Spelled.{HeadWord, headOfTree}
+use Rattle.net.specs.Places.{rangesFrom, placesAt}
+use Rattle.plans.specs.declared.element.Element.{Element}
+use Rattle.plans.specs.declared.element.Sort.{Sort}
+use Rattle.plans.specs.declared.element.Sort.the-variants.{Match, Solve, Range as InRange}
+use Rattle.marking.specs.Marked.{coloursAt}
+use Rattle.arrivals.specs.declared.step.Step.{Step}
+use Rattle.tries.specs.Partial.{matchedBy}
+use Rattle.tries.specs.Known.{Knows}
+use Rattle.tries.specs.Solve.{solvedAt, HasConjunct}
+use Rattle.tries.specs.Range.{valueAt, CountsValues, upFrom}
+
+-- words are the first ones of expressions
+abbrev pub Begin : List ℕ → List Expression → Type 0
+Begin [] [] = Unit {0}
+Begin [] (e ∷ es) = ⊥
+Begin (w ∷ ws) [] = ⊥
+Begin (w ∷ ws) (e ∷ es) = HeadWord w (headOfTree e) × Begin ws es
+
+-- the first words of n expressions from a position on
+pub record IsParts (ws : List ℕ) (v at n : ℕ) (r : List ℕ) : Type 0 where
+  pub begin : (es : List Expression) (next : ℕ) → several n (readExpression ws v) at ≡ read es next → Begin (take n r) es
+
+-- what is known of a match of an arc, in a marking with these beginnings
+pub record Aimed (begins : List ℕ) (a : Arc) (r : Step) : Type 0 where
+  pub wide : r .width ≡ length (a .components)
+  pub begin : Begin (take (r .width) (r .parts)) (a .components)
+  pub from : r .from ≡ getD begins (a .place) 0
+  pub many : r .count ≡ (getD begins (a .place + 1) 0 - getD begins (a .place) 0) / (r .width + 1)
+
+-- the entries of a match stand in the marking
+pub record Inside (ms : List ℕ) (r : Step) : Type 0 where
+  pub narrow : r .width ≤ 4
+  pub inside : r .from + r .count * (r .width + 1) ≤ length ms
+
+-- a match of the arc at a position
+pub record IsMatch (ws ps : List ℕ) (v : ℕ) (ms begins : List ℕ) (e : Element) (at : ℕ) (r : Step) : Type 0 where
+  pub element : r .element ≡ e
+  pub entries : Inside ms r
+  pub aimed : (a : Arc) (next : ℕ) → readArc ws (placesAt ws ps) v at ≡ read a next → getD begins (a .place) 0 ≤ getD begins (a .place + 1) 0 → getD begins (a .place + 1) 0 ≤ length ms → Aimed begins a r
+
+-- an element's tries stand in the words and slots that there are
+abbrev pub SafeBy : List ℕ → ℕ → Step → Sort → Type 0
+SafeBy ms v s (Match k) = Inside ms s
+SafeBy ms v s (Solve k) = Unit {0}
+SafeBy ms v s (InRange n) = 0 < s .count → (n < v) × (s .count ≤ 16384)
+
+abbrev pub Safe : List ℕ → ℕ → Step → Type 0
+Safe ms v s = SafeBy ms v s (s .element .sort)
+
+-- a conjunct that is tried stands at its position
+abbrev pub ReadyBy : List ℕ → ℕ → Step → Sort → Type 0
+ReadyBy ws v s (Match k) = Unit {0}
+ReadyBy ws v s (Solve k) = 0 < s .count → HasConjunct ws v (s .from)
+ReadyBy ws v s (InRange n) = Unit {0}
+
+abbrev pub Ready : List ℕ → ℕ → Step → Type 0
+Ready ws v s = ReadyBy ws v s (s .element .sort)
+
+-- the tries of a step from a partial binding
+abbrev pub triesOf : List ℕ → ℕ → ℕ → List ℕ → Step → Partial → Sort → List (Option Partial)
+triesOf ws ranges v ms s p (Match k) = map (λ c. matchedBy (rangesFrom ws v ranges) (take (s .width) (s .parts)) c p) (coloursAt ms (s .width) (s .count) (s .from))
+triesOf ws ranges v ms s p (Solve k) = replicate (s .count) (solvedAt ws (rangesFrom ws v ranges) v p (s .from))
+triesOf ws ranges v ms s p (InRange n) = map (λ i. some (set p n (some (valueAt (getD ws (ranges + n) 0) i)))) (upFrom 0 (s .count))
+
+abbrev pub triesBy : List ℕ → ℕ → ℕ → List ℕ → Step → Partial → List (Option Partial)
+triesBy ws ranges v ms s p = triesOf ws ranges v ms s p (s .element .sort)
+
+-- what an arrival tells of its element
+abbrev pub Told : List ℕ → List ℕ → ℕ → ℕ → List ℕ → List ℕ → List ℕ → List ℕ → Element → Step → Sort → Type 0
+Told ws ps position v inputs conjuncts ms begins e r (Match k) = (k < length inputs → IsMatch ws ps v ms begins e (getD inputs k 0) r) × (length inputs ≤ k → r .count ≡ 0)
+Told ws ps position v inputs conjuncts ms begins e r (Solve k) = (k < length conjuncts → (r .count ≡ 1) × (r .from ≡ getD conjuncts k 0)) × (length conjuncts ≤ k → r .count ≡ 0)
+Told ws ps position v inputs conjuncts ms begins e r (InRange n) = (n < v → CountsValues (getD ws (position + 1 + n) 0) (r .count)) × (v ≤ n → r .count ≡ 0)
+
+pub record IsArrival (ws ps : List ℕ) (position v : ℕ) (inputs conjuncts ms begins : List ℕ) (e : Element) (b : List ℕ) (r : Step) : Type 0 where
+  pub element : r .element ≡ e
+  pub safe : Safe ms v r
+  pub knows : Knows v b (r .parts) (r .known)
+  pub told : Told ws ps position v inputs conjuncts ms begins e r (e .sort)

@@ -1,0 +1,221 @@
+// An arrival at an element of a plan: how many tries it makes, and each of them.
+use expression::read::Skipped;
+use expression::read::skip_expression;
+use kinds::take::Taken;
+use kinds::take::take;
+use plans::element::Element;
+use plans::element::Sort;
+use tries::colour::match_colour;
+use tries::known::differs;
+use tries::known::known_parts;
+use tries::range::count_values;
+use tries::range::take_value;
+use tries::solve::solve_at;
+use word::fields::payload;
+ghost use mathlib.Core.Path.{_≡_};
+ghost use mathlib.Core.Option.{none};
+ghost use Prim.Native.Nat.{_≤_, _<_, _+_};
+ghost use lib.ListN.{length, getD, replicate};
+ghost use Rattle.net.specs.Places.{PlacesFit};
+ghost use Rattle.tries.specs.Partial.{partialOf, IsTried, IsSaved};
+ghost use Rattle.tries.specs.Known.{Knows};
+ghost use Rattle.arrivals.specs.Step.{IsParts, IsMatch, IsArrival, Safe, Ready, triesBy};
+
+// A search step: the element that was arrived at, its number of tries, and what they need: for a match where the entries of its place begin, the
+// components of a colour there, the first words of the arc's components and the values that are known of them; for a solve where its conjunct stands.
+pub struct Step {
+    pub element: Element,
+    pub count: usize,
+    pub from: usize,
+    pub width: usize,
+    pub parts: [u32; 4],
+    pub known: [u32; 4],
+}
+
+// An element without tries.
+fn no_tries(e: Element) -> Step
+    ensures { λ r. ⌜ (r .element ≡ e) × (r .count ≡ 0) × (r .from ≡ 0) × (r .width ≡ 0) × (r .known ≡ replicate 4 0) ⌝ }
+{
+    Step {
+        element: e,
+        count: 0,
+        from: 0,
+        width: 0,
+        parts: [0; 4],
+        known: [0; 4],
+    }
+}
+
+// The first words of so many expressions, one after the other.
+fn parts_at(net: &[u32], variables: usize, at: usize, n: usize) -> [u32; 4]
+    requires { ⌜ n ≤ 4 ⌝ }
+    ensures { λ r. ⌜ IsParts (now (net .entry)) variables at n r ⌝ }
+{
+    let mut parts = [0u32; 4];
+    let mut i = 0;
+    let mut next = at;
+    while i < n {
+        match skip_expression(net, variables, next) {
+            Skipped::Next(p) => {
+                parts[i] = net[next];
+                next = p;
+            }
+            Skipped::Refused(_, _) => {
+                return parts;
+            }
+        }
+        i += 1;
+    }
+    parts
+}
+
+// A match of the arc at a position: a try for each entry of its place.
+fn arrive_match(
+    net: &[u32],
+    places: &[usize],
+    variables: usize,
+    marking: &[u32],
+    begins: &[usize],
+    e: Element,
+    slots: &[u32],
+    at: usize,
+) -> Step
+    requires { ⌜ PlacesFit (now net) (now places) ⌝ }
+    requires { ⌜ length (now begins) ≡ 65 ⌝ }
+    requires { ⌜ variables ≤ length (now slots) ⌝ }
+    ensures { λ r. ⌜ IsMatch (now (net .entry)) (now (places .entry)) variables (now (marking .entry)) (now (begins .entry)) e at r × Knows variables (now (slots .entry)) (r .parts) (r .known) ⌝ }
+{
+    match take(net, at, 5) {
+        Taken::Word(q) => {
+            let place = q as usize;
+            if places.len() <= place {
+                return no_tries(e);
+            }
+            let from = begins[place];
+            let to = begins[place + 1];
+            if to < from {
+                return no_tries(e);
+            }
+            if marking.len() < to {
+                return no_tries(e);
+            }
+            match skip_expression(net, variables, at + 1) {
+                Skipped::Next(first) => {
+                    let width = payload(net[places[place]]) as usize;
+                    let parts = parts_at(net, variables, first, width);
+                    Step {
+                        element: e,
+                        count: (to - from) / (width + 1),
+                        from: from,
+                        width: width,
+                        parts: parts,
+                        known: known_parts(variables, slots, width, &parts),
+                    }
+                }
+                Skipped::Refused(_, _) => no_tries(e),
+            }
+        }
+        Taken::Refused(_, _) => no_tries(e),
+    }
+}
+
+// An arrival at an element of the transition at a position, whose input arcs and conjuncts stand at these positions, with a partial binding.
+pub fn arrive(
+    net: &[u32],
+    places: &[usize],
+    position: usize,
+    variables: usize,
+    inputs: &[usize],
+    conjuncts: &[usize],
+    marking: &[u32],
+    begins: &[usize],
+    e: Element,
+    slots: &[u32],
+) -> Step
+    requires { ⌜ PlacesFit (now net) (now places) ⌝ }
+    requires { ⌜ length (now begins) ≡ 65 ⌝ }
+    requires { ⌜ (variables ≤ length (now slots)) × (position + 1 + variables ≤ length (now net)) ⌝ }
+    ensures { λ r. ⌜ IsArrival (now (net .entry)) (now (places .entry)) position variables (now (inputs .entry)) (now (conjuncts .entry)) (now (marking .entry)) (now (begins .entry)) e (now (slots .entry)) r ⌝ }
+{
+    let sort = e.sort;
+    match sort {
+        Sort::Match(k) => {
+            if inputs.len() <= k {
+                return no_tries(e);
+            }
+            arrive_match(net, places, variables, marking, begins, e, slots, inputs[k])
+        }
+        Sort::Solve(j) => {
+            if conjuncts.len() <= j {
+                return no_tries(e);
+            }
+            Step {
+                element: e,
+                count: 1,
+                from: conjuncts[j],
+                width: 0,
+                parts: [0; 4],
+                known: [0; 4],
+            }
+        }
+        Sort::Range(n) => {
+            if variables <= n {
+                return no_tries(e);
+            }
+            Step {
+                element: e,
+                count: count_values(net[position + 1 + n]),
+                from: 0,
+                width: 0,
+                parts: [0; 4],
+                known: [0; 4],
+            }
+        }
+    }
+}
+
+// The i-th try of a step from a partial binding: whether it goes on, and then the slots hold what it goes on with. Where a colour differs from what is
+// known, the slots are not even looked at.
+pub fn try_at(
+    net: &[u32],
+    ranges: usize,
+    variables: usize,
+    marking: &[u32],
+    s: Step,
+    slots: &mut [u32],
+    saved: &[u32; 8],
+    i: usize,
+) -> bool
+    requires { ⌜ (length (now slots) ≡ variables) × (ranges + variables ≤ length (now net)) ⌝ }
+    requires { ⌜ IsSaved (now slots) (now saved) ⌝ }
+    requires { ⌜ Safe (now marking) variables s ⌝ }
+    requires { ⌜ Ready (now net) variables s ⌝ }
+    requires { ⌜ Knows variables (now slots) (s .parts) (s .known) ⌝ }
+    requires { ⌜ i < s .count ⌝ }
+    ensures { λ r. ⌜ IsTried variables (getD (triesBy (now (net .entry)) ranges variables (now (marking .entry)) s (partialOf variables (now (slots .entry)))) i none) (now (slots .entry)) r (now (slots .exit)) ⌝ }
+{
+    let e = s.element;
+    let sort = e.sort;
+    match sort {
+        Sort::Match(_) => {
+            let width = s.width;
+            let at = s.from + i * (width + 1) + 1;
+            if differs(marking, at, width, &s.known) {
+                return false;
+            }
+            match_colour(
+                net,
+                ranges,
+                variables,
+                marking,
+                at,
+                width,
+                &s.parts,
+                slots,
+                saved,
+            )
+        }
+        Sort::Solve(_) => solve_at(net, ranges, variables, slots, s.from),
+        Sort::Range(n) => take_value(net, ranges, variables, slots, n, i),
+    }
+}

@@ -1,0 +1,208 @@
+-- The rules of the count of one key, and of measuring all of them: the keys that are ahead, with what was measured so far, are what was ahead at
+-- first.
+use mathlib.Core.Path.{_≡_, refl, sym, ap, _∙_, subst}
+use mathlib.Core.Bool.{Bool, true, false, cond, not}
+use mathlib.Core.List.{List, [], _∷_, _++_, List·Memᴰ, List·Memᴰ·head}
+use Prim.Native.Nat.{ℕ, zero, suc, _+_, _-_, _*_, _≤_, _<_}
+use borrow.Author.Tests.{ne-eqb, le-leb, lt-leb, not-true, not-false}
+use native.Mathlib.Omega.{arith}
+use lib.Dec.{leb, eqb}
+use lib.IntN.{ℤ}
+use lib.ListN.{length, length-append, length-map}
+use Rattle.semantics.specs.Refusal.{mostCount}
+use Rattle.semantics.specs.Lists.{Every, every}
+use Rattle.semantics.specs.Word.{valueWord}
+use Rattle.semantics.specs.Marking.{Entry, key, countsOf, entryWords}
+use Rattle.semantics.proofs.Tests.{not-both, Every-at, Every-of, selected}
+use Rattle.net.specs.Places.{placesAt}
+use Rattle.marking.specs.declared.find.Spot.{Spot}
+use Rattle.marking.specs.Marked.{positionOf, IsSpot}
+use Rattle.marking.proofs.Codes.{coloured-length}
+use Rattle.arcs.specs.Keys.{keyPlace, keyCode, widthOf, keyColour, KeyFits, sumOf}
+use Rattle.arcs.proofs.Keyed.{keys-total}
+use Rattle.occurrence.proofs.Covering.{key-width}
+use Rattle.patch.specs.Patch.{Change, oldLength, newLength}
+use Rattle.changes.specs.declared.change.NewCount.{NewCount}
+use Rattle.changes.specs.declared.change.Changed.{Changed}
+use Rattle.changes.specs.Keys.{sortKeys, keysFrom, noKey, firstOf}
+use Rattle.changes.specs.Changes.{IsCount, entrySize, Moves, after, within, changesFrom, Sees, IsChange, IsMeasured}
+use Rattle.changes.proofs.Sorted.{Low, sort-of, keys-stay, keys-next, keys-none, keys-few}
+
+-- ── One count ──
+
+pub count-over : (n : ℕ) → mostCount < n → IsCount n (record { over = true; count = 0 })
+count-over n h = record { over = rw (lt-leb n mostCount h); same = λ p. absurd (not-both true refl p); small = omega arith }
+
+pub count-inside : (n k : ℕ) → k ≡ n → n ≤ mostCount → IsCount n (record { over = false; count = k })
+count-inside n k e h = record { over = rw (le-leb n mostCount h); same = λ p. e; small = omega arith }
+
+size-short : (count n : ℕ) → n ≤ 4 → entrySize count n ≤ 5
+size-short count n h = by (eqb count 0)
+  where
+    by : (t : Bool) → cond t 0 (1 + n) ≤ 5
+    by true = omega arith
+    by false = omega arith
+
+entry-size : (p : ℕ) (c : List ℤ) (count : ℕ) → entrySize count (length c) ≡ length (entryWords p c count)
+unfolding entryWords
+entry-size p c zero = refl
+entry-size p c (suc n) = let l = length-map c valueWord in rw (ne-eqb (suc n) 0 (λ e. omega arith)) (omega arith)
+
+-- ── One change ──
+
+module _ {ws ps ik ia ok oa ms begins : List ℕ} (m : Moves ws ps ik ia ok oa begins) {k : ℕ} (x : KeyFits ws ps k) {s : Spot} (f : IsSpot ms begins (keyPlace k) (keyColour ws ps k) s) {width : ℕ} (w : width ≡ widthOf ws ps (keyPlace k)) (narrow : width ≤ 4) where
+  wide : width ≡ length (keyColour ws ps k)
+  wide = w ∙ sym (coloured-length (widthOf ws ps (keyPlace k)) (keyCode k))
+
+  found : (es : List Entry) → Sees ws ps ms begins es → (s .at ≡ positionOf es (key (keyPlace k) (keyColour ws ps k))) × (s .count ≡ countsOf es (keyPlace k) (keyColour ws ps k))
+  found es v = f .found (placesAt ws ps) es (v .next) (v .marked) (v .begun) (key-width x)
+
+  module _ {taken made : ℕ} (t : taken ≡ sumOf ik ia k) (d : made ≡ sumOf ok oa k) where
+    after-is : (es : List Entry) → Sees ws ps ms begins es → s .count - taken + made ≡ after ws ps ik ia ok oa es (keyPlace k) (keyColour ws ps k)
+    after-is es v = rw (found es v .1, t, d, keys-total ik ia (m .ins .fit) x, keys-total ok oa (m .outs .fit) x)
+
+    pub changed : {n : NewCount} {old new : ℕ} → IsCount (s .count - taken + made) n → old ≡ entrySize (s .count) width → new ≡ entrySize (n .count) width → IsChange ws ps ik ia ok oa ms begins k (record { over = n .over; at = s .at; old = old; count = n .count; new = new })
+    changed {n} {old} {new} c o e = record {
+      over = λ es v. c .over ∙ ap (λ (z : ℕ). not (leb z mostCount)) (after-is es v);
+      told = λ es v p.
+          ap (λ (z : ℕ). change z (s .at) old) (c .same p ∙ after-is es v)
+          ∙ ap (λ (z : ℕ). change (after ws ps ik ia ok oa es (keyPlace k) (keyColour ws ps k)) z old) (found es v .0)
+          ∙ ap (change (after ws ps ik ia ok oa es (keyPlace k) (keyColour ws ps k)) (positionOf es (key (keyPlace k) (keyColour ws ps k)))) (size es v);
+      new = e ∙ ap (entrySize (n .count)) wide ∙ entry-size (keyPlace k) (keyColour ws ps k) (n .count);
+      small = c .small;
+      old-short = rw o (size-short (s .count) width narrow);
+      new-short = rw e (size-short (n .count) width narrow);
+    }
+      where
+        change : ℕ → ℕ → ℕ → Change
+        change z a b = record { place = keyPlace k; colour = keyColour ws ps k; count = z; at = a; old = b }
+
+        size : (es : List Entry) → Sees ws ps ms begins es → old ≡ entrySize (countsOf es (keyPlace k) (keyColour ws ps k)) (length (keyColour ws ps k))
+        size es v = o ∙ ap (λ (z : ℕ). entrySize z width) (found es v .1) ∙ ap (entrySize (countsOf es (keyPlace k) (keyColour ws ps k))) wide
+
+-- ── Keys that fit ──
+
+module _ {ws ps ik ia ok oa begins : List ℕ} (m : Moves ws ps ik ia ok oa begins) where
+  key-low : {k : ℕ} → KeyFits ws ps k → k < noKey
+  key-low x = let t = x .there in let few = m .fits .few in omega arith
+
+  every-low : (ks : List ℕ) → Every (KeyFits ws ps) ks → Low ks
+  every-low ks e = Every-of (λ (k : ℕ). k < noKey) ks (λ k i. key-low (Every-at (KeyFits ws ps) e i))
+
+  pub ins-low : Low ik
+  ins-low = every-low ik (m .ins .fit)
+
+  pub outs-low : Low ok
+  outs-low = every-low ok (m .outs .fit)
+
+  pub all-fit : Every (KeyFits ws ps) (ik ++ ok)
+  all-fit = append ik (m .ins .fit)
+    where
+      append : (ks : List ℕ) → Every (KeyFits ws ps) ks → Every (KeyFits ws ps) (ks ++ ok)
+      append [] e = m .outs .fit
+      append (k ∷ ks) e = (e .0, append ks (e .1))
+
+  pub all-low : Low (ik ++ ok)
+  all-low = every-low (ik ++ ok) all-fit
+
+  pub all-few : length (ik ++ ok) ≤ 16
+  all-few = let a = m .ins .few in let b = m .outs .few in omega (arith, length-append ik ok)
+
+  -- a key that is asked for is the first of those from itself on
+  module _ (floor : ℕ) {key : ℕ} (e : key ≡ firstOf (keysFrom floor (ik ++ ok))) where
+    pub next-same : keysFrom key (ik ++ ok) ≡ keysFrom floor (ik ++ ok)
+    next-same = rw e (keys-stay floor (ik ++ ok) all-low)
+
+    next-first : key ≡ firstOf (keysFrom key (ik ++ ok))
+    next-first = e ∙ ap firstOf (sym next-same)
+
+  pub key-fits : {k : ℕ} → k ≡ firstOf (keysFrom k (ik ++ ok)) → k < noKey → KeyFits ws ps k
+  unfolding keysFrom
+  key-fits {k} f h =
+      let e = keys-next k (ik ++ ok) f h in
+      let i : List·Memᴰ k (keysFrom k (ik ++ ok)) = subst (λ (l : List ℕ). List·Memᴰ k l) (sym e) (List·Memᴰ·head refl) in
+      Every-at (KeyFits ws ps) all-fit (sort-of (ik ++ ok) (selected (leb k) (sortKeys (ik ++ ok)) i .0))
+
+-- ── Measuring ──
+
+-- what was measured before a key
+pub record Measuring (ws ps ik ia ok oa ms begins : List ℕ) (k old new : ℕ) : Type 0 where
+  pub first : k ≡ firstOf (keysFrom k (ik ++ ok))
+  pub limit : (es : List Entry) → Sees ws ps ms begins es → every (within ws ps (after ws ps ik ia ok oa es)) (keysFrom k (ik ++ ok)) ≡ every (within ws ps (after ws ps ik ia ok oa es)) (keysFrom 0 (ik ++ ok))
+  pub old-same : (es : List Entry) → Sees ws ps ms begins es → old + oldLength (changesFrom ws ps es (after ws ps ik ia ok oa es) (ik ++ ok) k) ≡ oldLength (changesFrom ws ps es (after ws ps ik ia ok oa es) (ik ++ ok) 0)
+  pub new-same : (es : List Entry) → Sees ws ps ms begins es → new + newLength (changesFrom ws ps es (after ws ps ik ia ok oa es) (ik ++ ok) k) ≡ newLength (changesFrom ws ps es (after ws ps ik ia ok oa es) (ik ++ ok) 0)
+  pub old-short : old + 5 * length (keysFrom k (ik ++ ok)) ≤ 80
+  pub new-short : new + 5 * length (keysFrom k (ik ++ ok)) ≤ 80
+
+module _ {ws ps ik ia ok oa ms begins : List ℕ} (m : Moves ws ps ik ia ok oa begins) where
+  pub measuring-start : {k : ℕ} → k ≡ firstOf (keysFrom 0 (ik ++ ok)) → Measuring ws ps ik ia ok oa ms begins k 0 0
+  measuring-start {k} e =
+      let s = next-same m 0 e in
+      let few = keys-few 0 (ik ++ ok) in
+      let all = all-few m in
+      record {
+        first = next-first m 0 e;
+        limit = λ es v. rw s;
+        old-same = λ es v. rw s (omega arith);
+        new-same = λ es v. rw s (omega arith);
+        old-short = rw s (omega arith);
+        new-short = rw s (omega arith);
+      }
+
+  module _ {k old new : ℕ} (a : Measuring ws ps ik ia ok oa ms begins k old new) where
+    pub measuring-end : noKey ≤ k → {n : ℕ} → IsMeasured ws ps ik ia ok oa ms begins (record { over = false; n = n; old = old; new = new })
+    unfolding every oldLength newLength
+    measuring-end h =
+        let e = keys-none k (ik ++ ok) (a .first) (all-low m) h in
+        let n = a .new-short in
+        record {
+          over = λ es v. ap not (rw e at (a .limit es v));
+          old = λ es v p. let s = rw e at (a .old-same es v) in omega arith;
+          new = λ es v p. let s = rw e at (a .new-same es v) in omega arith;
+          new-short = omega arith;
+        }
+
+    module _ (h : k < noKey) {c : Changed} (x : IsChange ws ps ik ia ok oa ms begins k c) where
+      keys-are : keysFrom k (ik ++ ok) ≡ k ∷ keysFrom (k + 1) (ik ++ ok)
+      keys-are = keys-next k (ik ++ ok) (a .first) h
+
+      pub measuring-over : c .over ≡ true → IsMeasured ws ps ik ia ok oa ms begins (record { over = true; n = 0; old = 0; new = 0 })
+      unfolding every
+      measuring-over t = record {
+        over = λ es v. let w = not-true (within ws ps (after ws ps ik ia ok oa es) k) (sym (x .over es v) ∙ t) in ap not (rw (keys-are, w) at (a .limit es v));
+        old = λ es v p. absurd (not-both true refl p);
+        new = λ es v p. absurd (not-both true refl p);
+        new-short = omega arith;
+      }
+
+      -- the words that the next change adds
+      pub measuring-room : (old + c .old ≤ 80) × (new + c .new ≤ 80)
+      measuring-room =
+          let l : length (keysFrom k (ik ++ ok)) ≡ suc (length (keysFrom (k + 1) (ik ++ ok))) = ap length keys-are in
+          let a₁ = a .old-short in
+          let a₂ = a .new-short in
+          let b₁ = x .old-short in
+          let b₂ = x .new-short in
+          (omega arith, omega arith)
+
+      -- fewer keys are ahead
+      pub measuring-less : {k′ : ℕ} → k′ ≡ firstOf (keysFrom (k + 1) (ik ++ ok)) → length (keysFrom k′ (ik ++ ok)) < length (keysFrom k (ik ++ ok))
+      measuring-less e = let s = ap length (next-same m (k + 1) e) in let l = ap length keys-are in omega arith
+
+      pub measuring-turn : c .over ≡ false → {k′ : ℕ} → k′ ≡ firstOf (keysFrom (k + 1) (ik ++ ok)) → Measuring ws ps ik ia ok oa ms begins k′ (old + c .old) (new + c .new)
+      unfolding every oldLength newLength
+      measuring-turn t {k′} e =
+          let s = next-same m (k + 1) e in
+          let l : length (keysFrom k (ik ++ ok)) ≡ suc (length (keysFrom (k + 1) (ik ++ ok))) = ap length keys-are in
+          let a₁ = a .old-short in
+          let a₂ = a .new-short in
+          let b₁ = x .old-short in
+          let b₂ = x .new-short in
+          record {
+            first = next-first m (k + 1) e;
+            limit = λ es v. let w = not-false (within ws ps (after ws ps ik ia ok oa es) k) (sym (x .over es v) ∙ t) in rw s (rw (keys-are, w) at (a .limit es v));
+            old-same = λ es v. let d = ap (λ (c : Change). c .old) (x .told es v t) in let o = rw keys-are at (a .old-same es v) in rw s (omega arith);
+            new-same = λ es v. let d = x .new ∙ ap (λ (c : Change). length (entryWords (c .place) (c .colour) (c .count))) (x .told es v t) in let o = rw keys-are at (a .new-same es v) in rw s (omega arith);
+            old-short = rw s (omega arith);
+            new-short = rw s (omega arith);
+          }

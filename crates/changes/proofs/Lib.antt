@@ -1,0 +1,4 @@
+pub mod Sorted
+pub mod Counting
+pub mod Listing
+pub mod Stepped

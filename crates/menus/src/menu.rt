@@ -1,0 +1,124 @@
+// The call menu: every enabled binding of a transition in a marking, once, by rising variable 0, then 1 and on.
+use expression::read::Skipped;
+use occurrence::situation::prepare;
+use search::progress::Progress;
+use search::walk::walk;
+use semantics::Listed;
+use word::size::at_most;
+ghost use mathlib.Core.Path.{_≡_};
+ghost use lib.ListN.{length, replicate};
+ghost use Rattle.semantics.specs.Calls.{menuCall};
+ghost use Rattle.search.specs.Search.{menuEnd};
+ghost use Rattle.arrivals.specs.World.{World};
+ghost use Rattle.search.specs.Scene.{sceneOf};
+ghost use Rattle.menus.specs.Menu.{mostRows, IsListed};
+
+// How many rows of a width fit into a menu of so many words, at most 16,383.
+fn most_rows(room: usize, width: usize) -> usize
+    ensures { λ r. ⌜ r ≡ mostRows room width ⌝ }
+{
+    if width == 0 {
+        return 16383;
+    }
+    at_most(16383, room / width)
+}
+
+// Writes zeros to the whole of a buffer.
+pub fn clear(buffer: &mut [u32])
+    ensures { λ r. ⌜ now (buffer .exit) ≡ replicate (length (now (buffer .entry))) 0 ⌝ }
+{
+    let mut i = 0;
+    while i < buffer.len() {
+        buffer[i] = 0;
+        i += 1;
+    }
+}
+
+// 10 where the tries pass the budget, 11 where the bindings do not fit, and then the menu is cleared; or N and W. The conjuncts, input arcs and
+// elements of the transition stand at these positions.
+pub fn list_bindings(
+    net: &[u32],
+    places: &[usize],
+    position: usize,
+    variables: usize,
+    conjuncts: &[usize],
+    inputs: &[usize],
+    elements: &[usize],
+    marking: &[u32],
+    begins: &[usize],
+    budget: u32,
+    menu: &mut [u32],
+) -> Listed
+    requires { ⌜ World (now net) (now places) position variables (now inputs) (now conjuncts) (now elements) (now marking) (now begins) (sceneOf (now net) position (now marking)) ⌝ }
+    ensures { λ r. ⌜ IsListed (now (net .entry)) position (now (marking .entry)) budget (now (menu .entry)) r (now (menu .exit)) ⌝ }
+{
+    let mut slots = [0u32; 8];
+    let most = most_rows(menu.len(), variables);
+    let end = walk(
+        net,
+        places,
+        position,
+        variables,
+        conjuncts,
+        inputs,
+        elements,
+        marking,
+        begins,
+        0,
+        &mut slots[..variables],
+        menu,
+        most,
+        budget,
+        Progress {
+            tries: 0,
+            rows: 0,
+            spent: false,
+            full: false,
+        },
+    );
+    if end.spent {
+        clear(menu);
+        return Listed::Refused(10, 0);
+    }
+    if end.full {
+        clear(menu);
+        return Listed::Refused(11, 0);
+    }
+    Listed::Found(end.rows as u32, end.tries)
+}
+
+// The first refusal of net, transition and marking, in that order; then as above.
+pub fn menu(net: &[u32], transition: u32, marking: &[u32], budget: u32, menu: &mut [u32]) -> Listed
+    ensures { λ r. ⌜ menuEnd r (now (menu .exit)) ≡ menuCall (now (net .entry)) transition (now (marking .entry)) budget (now (menu .entry)) ⌝ }
+{
+    let s = prepare(net, transition, marking);
+    let end = s.end;
+    match end {
+        Skipped::Refused(n, p) => Listed::Refused(n, p),
+        Skipped::Next(_) => {
+            let places = s.places;
+            let places_at = s.places_at;
+            let begins = s.begins;
+            let t = s.transition;
+            let conjuncts = at_most(8, t.conjuncts);
+            let inputs = at_most(8, t.inputs);
+            let elements = at_most(8, t.elements);
+            let conjuncts_at = t.conjuncts_at;
+            let inputs_at = t.inputs_at;
+            let elements_at = t.elements_at;
+            list_bindings(
+                net,
+                &places_at[..places],
+                s.position,
+                t.variables,
+                &conjuncts_at[..conjuncts],
+                &inputs_at[..inputs],
+                &elements_at[..elements],
+                marking,
+                &begins[..],
+                budget,
+                menu,
+            )
+        }
+    }
+}
