@@ -1,5 +1,5 @@
 -- What an arrival at an element tries, told from positions. proofs/Tries.antt shows that in an accepted net and marking it is what semantics says.
--- Rests on semantics/specs/Tries, marking/specs/Marked, Partial, Known, Solve and Range.
+-- Rests on semantics/specs/Tries, marking/specs/Marked and tries/specs/{Partial, Known, Solve, Range}.
 use mathlib.Core.Path.{_≡_}
 use mathlib.Core.List.{List, [], _∷_, map}
 use mathlib.Core.Option.{Option, some}

@@ -1,5 +1,5 @@
 -- What firing starts from, and what its answers say.
--- Rests on semantics/specs/Calls, marking/specs/Marked, net/specs/Places, arcs/specs/Keys and occurrence/specs/Answers.
+-- Rests on semantics/specs/Calls, marking/specs/Marked, net/specs/Places, arcs/specs/Keys, occurrence/specs/Answers and changes/specs/Changes.
 use mathlib.Core.Path.{_≡_}
 use Prim.Native.Nat.{ℕ, _<_}
 use mathlib.Core.Bool.{true}

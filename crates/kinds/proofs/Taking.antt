@@ -1,4 +1,4 @@
--- Taking a word: what the tests of src/take.rt tell, and a law for each return of `take`. Rests on specs/Index.
+-- Taking a word: what the tests of src/take.rt tell, and a law for each return of `take`. Rests on specs/Taken.
 use mathlib.Core.Path.{_≡_, refl, sym, _∙_}
 use mathlib.Core.Bool.{Bool, true, false}
 use mathlib.Core.List.{List}

@@ -1,5 +1,5 @@
 -- How many rows a menu has room for, and what listing the enabled bindings answers.
--- Rests on semantics/specs/{Run, Calls} and Scene.
+-- Rests on semantics/specs/{Run, Calls} and search/specs/{Scene, Search}.
 use mathlib.Core.Path.{_≡_}
 use mathlib.Core.Bool.{cond}
 use mathlib.Core.List.{List}

@@ -1,5 +1,5 @@
 -- What a pick leaves: the marking after it at the front of the buffer, or the marking before it and the refusal.
--- Rests on semantics/specs/Run, firing/specs/Fire, Start and Parts.
+-- Rests on semantics/specs/Run, firing/specs/Fire, Known and Parts.
 use mathlib.Core.Path.{_≡_}
 use mathlib.Core.Bool.{true}
 use mathlib.Core.List.{List}

@@ -1,5 +1,5 @@
 -- A part of the text from what each function is handed: refused input has one part, and otherwise a part is the text of a transition.
--- The idea: the code makes the tests of `texts` in their order, and each return is a rule here. Rests on Cut, Menus and specs/{Texts, Part}.
+-- The idea: the code makes the tests of `texts` in their order, and each return is a rule here. Rests on semantics/proofs/Cut, Menus and specs/{Texts, Part}.
 use mathlib.Core.Path.{_≡_, refl, sym, ap, _∙_, subst}
 use mathlib.Core.Bool.{false}
 use mathlib.Core.List.{List, [], _∷_, _++_}

@@ -1,5 +1,5 @@
 -- What a run of picks comes to, as the code has it.
--- Rests on semantics/specs/{Run, Calls} and Pick.
+-- Rests on semantics/specs/{Run, Calls} and picks/specs/Known.
 use mathlib.Core.Path.{_≡_}
 use mathlib.Core.List.{List}
 use Prim.Native.Nat.{ℕ, _≤_, _<_}

@@ -1,5 +1,5 @@
 -- What a run starts from, as the code has it.
--- Rests on semantics/specs/Calls, net/specs/Places, marking/specs/Marked and search/specs/Scene.
+-- Rests on semantics/specs/Calls, marking/specs/Marked and picks/specs/Known.
 use mathlib.Core.Path.{_≡_}
 use mathlib.Core.List.{List}
 use mathlib.Core.Option.{none}
