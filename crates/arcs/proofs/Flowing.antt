@@ -23,7 +23,7 @@ use Rattle.kinds.specs.Taken.{fitsKind, taken, IsTaken}
 use Rattle.net.specs.Places.{rangesFrom, widthAt, placesAt, PlacesFit}
 use Rattle.net.proofs.Structures.{stricter}
 use Rattle.net.proofs.Placed.{places-length, width-at, ranges-at, fits-at}
-use Rattle.marking.proofs.Codes.{code-below}
+use Rattle.colours.proofs.Codes.{code-below}
 use Rattle.arcs.specs.declared.flow.Coefficient.{Coefficient}
 use Rattle.arcs.specs.declared.flow.Coefficient.the-variants.{Tokens, Nothing as Coefficient-none}
 use Rattle.arcs.specs.declared.flow.Packed.{Packed}

@@ -18,7 +18,7 @@ use Rattle.semantics.specs.Enabling.{Flow, total, covers, coversAll}
 use Rattle.semantics.proofs.Tests.{either, not-both, same-test, every-fails}
 use Rattle.semantics.proofs.Enabling.{amount-within, covers-all, all-covers}
 use Rattle.net.specs.Places.{placesAt}
-use Rattle.marking.proofs.Codes.{code-same, code-before}
+use Rattle.colours.proofs.Codes.{code-same, code-before}
 use Rattle.arcs.specs.Keys.{keyPlace, keyCode, widthOf, keyColour, keyFlow, keyFlows, KeyFits, fitsAt, moving, gatheredBy, sumOf}
 
 -- ── Two keys ──

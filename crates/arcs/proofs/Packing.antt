@@ -21,8 +21,8 @@ use Rattle.semantics.proofs.Words.{within-mag}
 use Rattle.semantics.proofs.Accepted.{signed-small}
 use Rattle.word.specs.Fields.{rangeWord}
 use Rattle.net.specs.Places.{rangesFrom}
-use Rattle.marking.specs.Code.{ofDigit, coloured, IsCode}
-use Rattle.marking.proofs.Codes.{code-start, code-behind, code-room, code-below, value-back}
+use Rattle.colours.specs.Code.{ofDigit, coloured, IsCode}
+use Rattle.colours.proofs.Codes.{code-start, code-behind, code-room, code-below, value-back}
 use Rattle.arcs.specs.declared.flow.Coded.{Coded}
 use Rattle.arcs.specs.declared.flow.Packed.{Packed}
 use Rattle.arcs.specs.declared.flow.Packed.the-variants.{Code, Outside, Nothing}

@@ -1,5 +1,5 @@
 -- What arcs move, as the code tells it: a place and a colour are one number, a key, the place above the 56 bits of the colour's code.
--- Rests on Flow and marking/specs/Code.
+-- Rests on Flow and colours/specs/Code.
 use mathlib.Core.Path.{_≡_}
 use Prim.Native.Nat.{ℕ, _+_, _*_, _/_, _%_, _≤_, _<_, _^_}
 use mathlib.Core.Bool.{Bool, true, false, cond, _&&_, _||_}
@@ -16,7 +16,7 @@ use Rattle.semantics.specs.Order.{inRanges}
 use Rattle.semantics.specs.Enabling.{Flow}
 use Rattle.word.specs.Fields.{rangeWord}
 use Rattle.net.specs.Places.{rangesFrom, widthAt, placesAt}
-use Rattle.marking.specs.Code.{ofDigit, coloured}
+use Rattle.colours.specs.Code.{ofDigit, coloured}
 use Rattle.arcs.specs.declared.flow.Coefficient.{Coefficient}
 use Rattle.arcs.specs.declared.flow.Coefficient.the-variants.{Tokens as Coefficient-tokens, Nothing as Coefficient-none}
 use Rattle.arcs.specs.declared.flow.Coded.{Coded}

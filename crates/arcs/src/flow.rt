@@ -1,11 +1,11 @@
 // What an arc moves under lent binding words: so many tokens of a place and colour, which are one number, a key: the place above the 56 bits of a
 // colour's code.
+use colours::code::digit_of;
+use colours::range::in_range;
 use expression::evaluate::Evaluated;
 use expression::evaluate::evaluate;
 use kinds::take::Taken;
 use kinds::take::take;
-use marking::code::digit_of;
-use marking::range::in_range;
 use word::fields::payload;
 use word::fields::value_word;
 ghost use mathlib.Core.Path.{_≡_};

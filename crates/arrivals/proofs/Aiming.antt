@@ -22,7 +22,7 @@ use Rattle.net.specs.Places.{widthAt, placesAt, PlacesFit}
 use Rattle.net.proofs.Structures.{stricter, word-refused, word-taken}
 use Rattle.net.proofs.Placed.{places-length, width-at, fits-at}
 use Rattle.net.proofs.Skimming.{several-length}
-use Rattle.marking.proofs.Found.{rows-inside}
+use Rattle.counts.proofs.Found.{rows-inside}
 use Rattle.plans.specs.declared.element.Element.{Element}
 use Rattle.arrivals.specs.declared.step.Step.{Step}
 use Rattle.tries.specs.Known.{Knows}

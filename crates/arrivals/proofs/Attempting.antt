@@ -11,8 +11,9 @@ use Rattle.semantics.specs.Tries.{Partial}
 use Rattle.net.specs.Places.{rangesFrom}
 use Rattle.plans.specs.declared.element.Sort.{Sort}
 use Rattle.plans.specs.declared.element.Sort.the-variants.{Match, Solve, Range as InRange}
-use Rattle.marking.specs.Marked.{valuesAt, coloursAt}
-use Rattle.marking.proofs.Ranked.{colours-length, colours-at, row-room}
+use Rattle.colours.specs.Values.{valuesAt}
+use Rattle.counts.specs.Counts.{coloursAt}
+use Rattle.counts.proofs.Ranked.{colours-length, colours-at, row-room}
 use Rattle.arrivals.specs.declared.step.Step.{Step}
 use Rattle.tries.specs.Partial.{partialOf, matchedBy}
 use Rattle.tries.specs.Known.{Knows, Differs, DiffersIf}

@@ -21,9 +21,10 @@ use Rattle.semantics.proofs.Tuples.{in-tuples, tuples-rise}
 use Rattle.semantics.proofs.Spans.{numbered-read}
 use Rattle.semantics.proofs.Entries.{Good, counts-some, counts-member}
 use Rattle.semantics.proofs.ReadEntries.{Accepted, entries-read}
-use Rattle.marking.specs.Marked.{coloursAt, beginOf, markingRead, Begins}
-use Rattle.marking.proofs.Blocks.{on, block}
-use Rattle.marking.proofs.Found.{colours, block-colours, Seen, seen}
+use Rattle.counts.specs.Counts.{coloursAt}
+use Rattle.marking.specs.Marked.{beginOf, markingRead, Begins}
+use Rattle.counts.proofs.Blocks.{on, block}
+use Rattle.counts.proofs.Found.{colours, block-colours, Seen, seen}
 
 module _ (net : Net) (ms : List ℕ) (es : List Entry) (next : ℕ) (r : markingRead (net .places) ms ≡ read es next) where
   accepted : Accepted (net .places) ms [] 0 es next

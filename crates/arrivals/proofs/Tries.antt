@@ -32,8 +32,8 @@ use Rattle.plans.specs.declared.element.Element.{Element}
 use Rattle.plans.specs.declared.element.Sort.{Sort}
 use Rattle.plans.specs.declared.element.Sort.the-variants.{Match, Solve, Range as InRange}
 use Rattle.plans.specs.Plan.{sorted}
-use Rattle.marking.specs.Marked.{coloursAt}
-use Rattle.marking.proofs.Ranked.{colours-length}
+use Rattle.counts.specs.Counts.{coloursAt}
+use Rattle.counts.proofs.Ranked.{colours-length}
 use Rattle.arrivals.specs.declared.step.Step.{Step}
 use Rattle.tries.specs.Partial.{matchedBy}
 use Rattle.tries.specs.Solve.{solvedAt, HasConjunct}

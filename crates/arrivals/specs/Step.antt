@@ -1,5 +1,5 @@
 -- What an arrival at an element tries, told from positions. proofs/Tries.antt shows that in an accepted net and marking it is what semantics says.
--- Rests on semantics/specs/Tries, marking/specs/Marked and tries/specs/{Partial, Known, Solve, Range}.
+-- Rests on semantics/specs/Tries, counts/specs/Counts and tries/specs/{Partial, Known, Solve, Range}.
 use mathlib.Core.Path.{_≡_}
 use mathlib.Core.List.{List, [], _∷_, map}
 use mathlib.Core.Option.{Option, some}
@@ -15,7 +15,7 @@ use Rattle.net.specs.Places.{rangesFrom, placesAt}
 use Rattle.plans.specs.declared.element.Element.{Element}
 use Rattle.plans.specs.declared.element.Sort.{Sort}
 use Rattle.plans.specs.declared.element.Sort.the-variants.{Match, Solve, Range as InRange}
-use Rattle.marking.specs.Marked.{coloursAt}
+use Rattle.counts.specs.Counts.{coloursAt}
 use Rattle.arrivals.specs.declared.step.Step.{Step}
 use Rattle.tries.specs.Partial.{matchedBy}
 use Rattle.tries.specs.Known.{Knows}

@@ -15,9 +15,10 @@ use Rattle.semantics.specs.Word.{valueWord}
 use Rattle.semantics.specs.Marking.{Entry, key, countsOf, entryWords}
 use Rattle.semantics.proofs.Tests.{not-both, Every-at, Every-of, selected}
 use Rattle.net.specs.Places.{placesAt}
-use Rattle.marking.specs.declared.find.Spot.{Spot}
-use Rattle.marking.specs.Marked.{positionOf, IsSpot}
-use Rattle.marking.proofs.Codes.{coloured-length}
+use Rattle.counts.specs.declared.find.Spot.{Spot}
+use Rattle.counts.specs.Counts.{IsSpot}
+use Rattle.marking.specs.Marked.{positionOf}
+use Rattle.colours.proofs.Codes.{coloured-length}
 use Rattle.arcs.specs.Keys.{keyPlace, keyCode, widthOf, keyColour, KeyFits, sumOf}
 use Rattle.arcs.proofs.Keyed.{keys-total}
 use Rattle.occurrence.proofs.Covering.{key-width}

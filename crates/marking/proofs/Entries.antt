@@ -26,7 +26,8 @@ use Rattle.net.specs.Skim.{changed}
 use Rattle.net.specs.Places.{rangesFrom, widthAt, placesAt, PlacesFit}
 use Rattle.net.proofs.Placed.{places-length, ranges-at, fits-at}
 use Rattle.net.proofs.Structures.{stricter, word-refused, word-taken, next-fits}
-use Rattle.marking.specs.Marked.{valuesAt, valueIn, tokenIn, entryPlace}
+use Rattle.colours.specs.Values.{valuesAt, valueIn}
+use Rattle.marking.specs.Marked.{tokenIn, entryPlace}
 
 -- the last of the three tests of a TOKEN word
 pub token-last : {places p : ℕ} → p < 4194304 → p / 16384 % 256 < places → leb 1 (p % 16384) ≡ tokenIn places p

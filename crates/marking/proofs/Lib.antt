@@ -1,13 +1,6 @@
-pub mod Valuing
-pub mod Ranging
-pub mod Comparing
-pub mod Codes
 pub mod Entries
 pub mod Rising
 pub mod Known
-pub mod Ranked
-pub mod Blocks
-pub mod Found
 pub mod Bound
 pub mod First
 pub mod Counted

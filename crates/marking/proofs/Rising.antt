@@ -27,8 +27,9 @@ use Rattle.expression.specs.Skip.{forget}
 use Rattle.net.specs.Skim.{changed}
 use Rattle.marking.specs.declared.entry.EntryRead.{EntryRead}
 use Rattle.marking.specs.declared.entry.EntryRead.the-variants.{Entry as EntryAt, Refused as EntryRefused}
-use Rattle.marking.specs.Marked.{valuesAt, tokenIn, entryPlace, entryRead, markingRead, positionOf, beginOf, Begun, risesAfter, IsMarking}
-use Rattle.marking.proofs.Comparing.{values-length}
+use Rattle.colours.specs.Values.{valuesAt}
+use Rattle.marking.specs.Marked.{tokenIn, entryPlace, entryRead, markingRead, positionOf, beginOf, Begun, risesAfter, IsMarking}
+use Rattle.colours.proofs.Comparing.{values-length}
 use Rattle.marking.proofs.Entries.{Values, values-stand, token-parts}
 
 -- ── Where places begin ──

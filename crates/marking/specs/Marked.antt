@@ -1,35 +1,26 @@
--- What the code tells of a marking: values and entries where they stand, and where the entries of a place begin.
--- Rests on semantics/specs/Marking.
+-- What the code tells of a marking: its entries where they stand, and where the entries of a place begin.
+-- Rests on semantics/specs/Marking and colours/specs/Values.
 use mathlib.Core.Path.{_≡_}
-use Prim.Native.Nat.{ℕ, zero, suc, _+_, _≤_, _<_, _%_}
+use Prim.Native.Nat.{ℕ, _+_, _≤_, _<_}
 use mathlib.Core.Bool.{Bool, true, cond, _&&_}
 use mathlib.Core.List.{List, [], _∷_}
 use lib.Dec.{leb, ltb, eqb}
 use lib.IntN.{ℤ, pos}
 use lib.ListN.{length, getD, take}
 use Rattle.semantics.specs.Refusal.{badMarking, badBinding}
-use Rattle.semantics.specs.Word.{bits, only, signed, Range, within}
+use Rattle.semantics.specs.Word.{bits, only, Range}
 use Rattle.semantics.specs.Reading.{Reading, read, refused, then, valuesIn, ended, numbered}
-use Rattle.semantics.specs.Net.{Place, rangesAt}
-use Rattle.semantics.specs.Order.{before, Rising}
-use Rattle.semantics.specs.Marking.{Entry, key, readEntries, countsOf}
+use Rattle.semantics.specs.Net.{Place}
+use Rattle.semantics.specs.Order.{before}
+use Rattle.semantics.specs.Marking.{Entry, key, readEntries}
 use Rattle.expression.specs.declared.read.Skipped.the-variants.{Refused}
 use Rattle.expression.specs.Skip.{forget, skipped}
+use Rattle.colours.specs.Values.{valuesAt}
 use Rattle.marking.specs.declared.entry.EntryRead.{EntryRead}
 use Rattle.marking.specs.declared.entry.EntryRead.the-variants.{Entry as EntryAt, Refused as EntryRefused}
 use Rattle.marking.specs.declared.index.MarkingIndex.{MarkingIndex}
-use Rattle.marking.specs.declared.find.Spot.{Spot}
-
--- the values of n VALUE words
-unfoldable pub valuesAt : List ℕ → ℕ → ℕ → List ℤ
-valuesAt ws zero at = []
-valuesAt ws (suc n) at = signed (getD ws at 0 % 16384) ∷ valuesAt ws n (at + 1)
 
 -- ── One entry ──
-
--- the 28 bits of a VALUE word in a range
-abbrev pub valueIn : Range → ℕ → Bool
-valueIn r v = only 14 v && within r (signed v)
 
 -- the 28 bits of a TOKEN word on a net of so many places
 abbrev pub tokenIn : ℕ → ℕ → Bool
@@ -82,27 +73,7 @@ pub record IsMarkingIn (places : List Place) (buffer : List ℕ) (m : ℕ) (r : 
 unfoldable pub bindingRead : List Range → List ℕ → Reading (List ℤ)
 bindingRead rs ws = numbered badBinding (then (valuesIn ws rs 0) (λ b next. ended ws b next))
 
--- ── One place's entries, where they stand ──
-
--- k entries of a place, of n components each
-unfoldable pub blockAt : List ℕ → ℕ → ℕ → ℕ → ℕ → List Entry
-blockAt ws p n zero at = []
-blockAt ws p n (suc k) at = record { place = p; count = getD ws at 0 % 16384; colour = valuesAt ws n (at + 1) } ∷ blockAt ws p n k (at + (n + 1))
-
--- their colours
-unfoldable pub coloursAt : List ℕ → ℕ → ℕ → ℕ → List (List ℤ)
-coloursAt ws n zero at = []
-coloursAt ws n (suc k) at = valuesAt ws n (at + 1) ∷ coloursAt ws n k (at + (n + 1))
-
--- how many colours stand before one
-unfoldable pub rankOf : List (List ℤ) → List ℤ → ℕ
-rankOf [] c = 0
-rankOf (x ∷ xs) c = cond (before x c) 1 0 + rankOf xs c
-
--- among rising colours, the number of those before a colour
-pub record IsRank (cs : List (List ℤ)) (c : List ℤ) (r : ℕ) : Type 0 where
-  pub inside : r ≤ length cs
-  pub rank : Rising (λ x. x) cs → r ≡ rankOf cs c
+-- ── Where the entries of places begin ──
 
 -- the places' beginnings in a marking
 pub record Begins (es : List Entry) (begins : List ℕ) : Type 0 where
@@ -118,7 +89,3 @@ pub record Accepted (places : List Place) (ws : List ℕ) : Type 0 where
 pub record Indexed (places : List Place) (ws begins : List ℕ) : Type 0 where
   pub long : length begins ≡ 65
   pub of : (es : List Entry) (next : ℕ) → markingRead places ws ≡ read es next → Begins es begins
-
--- where the entry of a place and colour stands or would stand, and its count, in a marking with these beginnings
-pub record IsSpot (ws begins : List ℕ) (p : ℕ) (c : List ℤ) (r : Spot) : Type 0 where
-  pub found : (ps : List Place) (es : List Entry) (next : ℕ) → markingRead ps ws ≡ read es next → Begins es begins → length (rangesAt ps p) ≡ length c → (r .at ≡ positionOf es (key p c)) × (r .count ≡ countsOf es p c)

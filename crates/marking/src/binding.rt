@@ -1,5 +1,5 @@
 // Bindings: refusal 8.
-use crate::values::read_values;
+use colours::values::read_values;
 use expression::read::Skipped;
 ghost use mathlib.Core.Path.{_≡_};
 ghost use Prim.Native.Nat.{_≤_, _+_};

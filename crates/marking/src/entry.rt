@@ -1,5 +1,5 @@
 // One entry of a marking: its TOKEN word and its values, each in the range of its place.
-use crate::values::read_values;
+use colours::values::read_values;
 use expression::read::Skipped;
 use kinds::take::Taken;
 use kinds::take::take;

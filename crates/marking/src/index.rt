@@ -1,7 +1,7 @@
 // A marking read whole: refusal 7, and where the entries of each place begin.
 use crate::entry::EntryRead;
 use crate::entry::read_entry;
-use crate::order::values_before;
+use colours::order::values_before;
 use expression::read::Skipped;
 ghost use mathlib.Core.Path.{_≡_};
 ghost use Prim.Native.Nat.{_≤_, _+_};

@@ -19,9 +19,10 @@ use Rattle.semantics.proofs.Tests.{false-true}
 use Rattle.semantics.proofs.Markings.{marking-proper}
 use Rattle.net.specs.Places.{placesAt}
 use Rattle.net.proofs.Placed.{width-at}
-use Rattle.marking.specs.declared.find.Spot.{Spot}
-use Rattle.marking.specs.Marked.{markingRead, Begins, IsSpot}
-use Rattle.marking.proofs.Codes.{coloured-length}
+use Rattle.counts.specs.declared.find.Spot.{Spot}
+use Rattle.counts.specs.Counts.{IsSpot}
+use Rattle.marking.specs.Marked.{markingRead, Begins}
+use Rattle.colours.proofs.Codes.{coloured-length}
 use Rattle.arcs.specs.declared.gather.Gathered.{Gathered}
 use Rattle.arcs.specs.Flow.{guardAt, flowsAt}
 use Rattle.arcs.specs.Keys.{keyPlace, keyCode, widthOf, keyColour, keyFlows, KeyFits, IsGathered, sumOf}

@@ -1,13 +1,13 @@
 // Whether a marking covers what input arcs take: sums by key, held against counts.
-use marking::find::Spot;
-use marking::find::find;
+use counts::find::Spot;
+use counts::find::find;
 use word::fields::payload;
 ghost use mathlib.Core.Path.{_≡_};
 ghost use Prim.Native.Nat.{_≤_, _<_, _^_};
 ghost use lib.ListN.{length};
 ghost use Rattle.semantics.specs.Lists.{Every};
 ghost use Rattle.net.specs.Places.{PlacesFit};
-ghost use Rattle.marking.specs.Marked.{IsSpot};
+ghost use Rattle.counts.specs.Counts.{IsSpot};
 ghost use Rattle.arcs.specs.Keys.{keyPlace, widthOf, keyColour, KeyFits, sumOf};
 ghost use Rattle.occurrence.specs.Answers.{IsCovered};
 

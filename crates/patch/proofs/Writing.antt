@@ -16,8 +16,8 @@ use lib.Seq.{slice, length-slice, length-take-le, take-length, take-at, drop-app
 use Rattle.semantics.specs.Word.{tokenWord, valueWord}
 use Rattle.semantics.specs.Marking.{entryWords}
 use Rattle.semantics.proofs.Tests.{either}
-use Rattle.marking.specs.Code.{ofDigit, coloured}
-use Rattle.marking.proofs.Codes.{coloured-length}
+use Rattle.colours.specs.Code.{ofDigit, coloured}
+use Rattle.colours.proofs.Codes.{coloured-length}
 use Rattle.patch.specs.Patch.{Change, patched, Apart, InOrder, written}
 
 -- ── Words written ──

@@ -6,7 +6,7 @@ ghost use Prim.Native.Nat.{_≤_, _<_, _+_};
 ghost use lib.ListN.{length};
 ghost use Rattle.semantics.specs.Word.{valueWord};
 ghost use Rattle.semantics.specs.Marking.{entryWords};
-ghost use Rattle.marking.specs.Code.{ofDigit, coloured};
+ghost use Rattle.colours.specs.Code.{ofDigit, coloured};
 ghost use Rattle.patch.specs.Patch.{written};
 
 // The VALUE word of a digit.

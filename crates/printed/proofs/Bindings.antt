@@ -1,5 +1,5 @@
 -- The words of a menu read back: rows of VALUE words are the bindings that they were written from, since every value of an accepted net has
--- fourteen bits. The lines of rows are put row by row. Rests on semantics/proofs/{Words, Menu}, marking/proofs/Codes and text/proofs/Putting.
+-- fourteen bits. The lines of rows are put row by row. Rests on semantics/proofs/{Words, Menu}, colours/proofs/Codes and text/proofs/Putting.
 use mathlib.Core.Path.{_≡_, refl, ap, _∙_, subst}
 use mathlib.Core.Bool.{true}
 use mathlib.Core.List.{List, [], _∷_, _++_, map, flatMap, append-assoc}
@@ -21,7 +21,7 @@ use Rattle.semantics.proofs.Words.{within-mag}
 use Rattle.semantics.proofs.Accepted.{Valued, SoundTransition}
 use Rattle.semantics.proofs.Menu.{menu-members}
 use Rattle.rows.specs.Rows.{valuesOfWords, rowsOf}
-use Rattle.marking.proofs.Codes.{value-back}
+use Rattle.colours.proofs.Codes.{value-back}
 use Rattle.text.specs.Put.{Put, rowText}
 use Rattle.text.proofs.Putting.{Left, left-all, left-after, left-none}
 use Rattle.printed.specs.Part.{rowsText}

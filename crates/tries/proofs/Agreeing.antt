@@ -19,8 +19,8 @@ use Rattle.word.specs.Number.{number}
 use Rattle.word.specs.Fields.{rangeWord}
 use Rattle.expression.specs.Evaluate.{valueOf}
 use Rattle.net.specs.Places.{rangesFrom}
-use Rattle.marking.specs.Marked.{valuesAt}
-use Rattle.marking.proofs.Comparing.{values-length, values-at}
+use Rattle.colours.specs.Values.{valuesAt}
+use Rattle.colours.proofs.Comparing.{values-length, values-at}
 use Rattle.tries.specs.declared.colour.Met.{Met}
 use Rattle.tries.specs.declared.colour.Met.the-variants.{Agrees, Differs, Takes}
 use Rattle.tries.specs.Partial.{partialOf, partTry, metIf, metOf, MetInside, IsMet, matchedBy}

@@ -23,8 +23,8 @@ use Rattle.word.specs.declared.number.Number.{Number}
 use Rattle.word.specs.declared.number.Number.the-variants.{Some}
 use Rattle.word.specs.Number.{number}
 use Rattle.expression.specs.Evaluate.{valueOf}
-use Rattle.marking.specs.Marked.{valuesAt}
-use Rattle.marking.proofs.Comparing.{values-at}
+use Rattle.colours.specs.Values.{valuesAt}
+use Rattle.colours.proofs.Comparing.{values-at}
 use Rattle.tries.specs.Partial.{partialOf, partTry, matchedBy}
 use Rattle.tries.specs.Known.{wanted, IsKnown, Knows, Differs}
 use Rattle.tries.proofs.Slots.{slot-read}

@@ -1,7 +1,7 @@
 // A match try: a colour that stands in the marking held against the components of an arc, told by their first words.
 use crate::partial::restore;
+use colours::range::in_range;
 use expression::evaluate::value_of;
-use marking::range::in_range;
 use word::fields::kind;
 use word::fields::payload;
 use word::fields::signed;
@@ -13,7 +13,7 @@ ghost use Prim.Native.Nat.{_≤_, _+_};
 ghost use lib.ListN.{length, take};
 ghost use Rattle.semantics.specs.Tries.{agree, partly};
 ghost use Rattle.net.specs.Places.{rangesFrom};
-ghost use Rattle.marking.specs.Marked.{valuesAt};
+ghost use Rattle.colours.specs.Values.{valuesAt};
 ghost use Rattle.tries.specs.Partial.{partialOf, IsTried, IsSaved, partTry, matchedBy, IsMet, metIf};
 
 // How a component of a colour stands to one of an arc: it agrees, it differs, or a variable takes it, as a VALUE word.

@@ -1,7 +1,7 @@
 // Partial bindings as words: a slot for each variable, which holds a VALUE word where the variable is bound and 0 where it is not. The slots are lent,
 // since a copy for each try, with one word set, is loaded right after that word is stored, and the processor waits for it. So a try writes into them,
 // and what it wrote is taken back before the next.
-use marking::range::in_range;
+use colours::range::in_range;
 use word::fields::value_word;
 ghost use mathlib.Core.Path.{_≡_};
 ghost use Prim.Native.Nat.{_≤_, _+_};

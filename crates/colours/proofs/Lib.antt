@@ -1,0 +1,4 @@
+pub mod Valuing
+pub mod Comparing
+pub mod Codes
+pub mod Ranging

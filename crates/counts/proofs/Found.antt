@@ -1,0 +1,270 @@
+-- What the bisection finds: the number of a place's colours before a colour is where its entry stands or would stand, and the entry there
+-- has its count. Rests on Blocks (a place's entries stand side by side) and Ranked (their colours rise).
+use mathlib.Core.Path.{_≡_, refl, sym, ap, _∙_, subst}
+use mathlib.Core.Logic.{_⊎_, inl, inr}
+use Prim.Native.Nat.{ℕ, zero, suc, _+_, _*_, _-_, _/_, _%_, _≤_, _<_}
+use mathlib.Core.Bool.{Bool, true, false, cond, _&&_}
+use mathlib.Core.List.{List, [], _∷_, map}
+use native.Mathlib.Nat.{suc-mul, mul-le-mul-right, mul-div-cancel, div-mul-le-self}
+use native.Mathlib.Omega.{arith}
+use borrow.Author.Tests.{leb-true, leb-false, eqb-true, eq-eqb}
+use lib.Dec.{leb, eqb}
+use lib.IntN.{ℤ, pos}
+use lib.ListN.{length, getD}
+use Rattle.semantics.specs.Lists.{Every}
+use Rattle.semantics.specs.Refusal.{badMarking}
+use Rattle.semantics.specs.Reading.{read, then}
+use Rattle.semantics.specs.Net.{Place, rangesAt}
+use Rattle.semantics.specs.Order.{sameTuple, before, Rising}
+use Rattle.semantics.specs.Marking.{Entry, key, readEntry, rising, readEntries, countsOf}
+use Rattle.semantics.proofs.Tests.{either, not-both, tuple-same, Every-at, Every-of, selected}
+use Rattle.semantics.proofs.Order.{before-irrefl, rising-select}
+use Rattle.semantics.proofs.Spans.{then-read, then-demand, demand-read, read-same, numbered-read}
+use Rattle.semantics.proofs.Entries.{entryKey}
+use Rattle.semantics.proofs.ReadEntries.{entries-read}
+use Rattle.counts.specs.declared.find.Spot.{Spot}
+use Rattle.colours.specs.Values.{valuesAt}
+use Rattle.counts.specs.Counts.{blockAt, coloursAt, rankOf, IsRank, IsSpot}
+use Rattle.marking.specs.Marked.{markingRead, positionOf, beginOf, Begins}
+use Rattle.marking.proofs.Rising.{sizeOf, entry-stands}
+use Rattle.counts.proofs.Ranked.{rank-none, row-room}
+use Rattle.counts.proofs.Blocks.{on, block, Wide, key-same, position-rank, begin-next, counts-block, Stand, block-stands}
+
+-- ── A marking that was read stands in its words ──
+
+-- an entry has as many components as its place
+abbrev Fitting : List Place → Entry → Type 0
+Fitting ps e = length (e .colour) ≡ length (rangesAt ps (e .place))
+
+entries-stand : (n : ℕ) (ps : List Place) (ws : List ℕ) (last : List ℤ) (at : ℕ) (es : List Entry) (next : ℕ) → at ≤ length ws → readEntries n ps ws last at ≡ read es next → Stand ws at es × Every (Fitting ps) es
+unfolding readEntries
+entries-stand zero ps ws last at es next h r =
+    let d = demand-read (leb (length ws) at) at (read [] at) es next r in
+    let s = read-same [] es at next (d .1) in
+    let l = leb-true (length ws) at (d .0) in
+    let e : at ≡ length ws = omega arith in
+    subst (λ (es : List Entry). Stand ws at es × Every (Fitting ps) es) (s .0) (e, tt)
+entries-stand (suc n) ps ws last at es next h r = by (leb (length ws) at) refl r (λ e mid. entries-stand n ps ws (entryKey e) mid)
+  where
+    by : (t : Bool) → leb (length ws) at ≡ t → cond t (read [] at) (then (readEntry ps ws at) (λ e next. then (rising last e at next) (λ e next. then (readEntries n ps ws (entryKey e) next) (λ es next. read (e ∷ es) next)))) ≡ read es next → ((e : Entry) (mid : ℕ) (ds : List Entry) (end : ℕ) → mid ≤ length ws → readEntries n ps ws (entryKey e) mid ≡ read ds end → Stand ws mid ds × Every (Fitting ps) ds) → Stand ws at es × Every (Fitting ps) es
+    by true t r f =
+        let s = read-same [] es at next r in
+        let l = leb-true (length ws) at t in
+        let e : at ≡ length ws = omega arith in
+        subst (λ (es : List Entry). Stand ws at es × Every (Fitting ps) es) (s .0) (e, tt)
+    by false t r f =
+        then-read (readEntry ps ws at) (λ e mid. then (rising last e at mid) (λ e mid. then (readEntries n ps ws (entryKey e) mid) (λ ds end. read (e ∷ ds) end))) es next r λ e mid p q.
+        let d = then-demand (before last (entryKey e)) at e mid (λ e mid. then (readEntries n ps ws (entryKey e) mid) (λ ds end. read (e ∷ ds) end)) es next q in
+        then-read (readEntries n ps ws (entryKey e) mid) (λ ds end. read (e ∷ ds) end) es next (d .1) λ ds end p′ q′.
+        let g = entry-stands ps ws at e mid (leb-false (length ws) at t) p in
+        let s = read-same (e ∷ ds) es end next q′ in
+        let w = g .wide in
+        let a = g .after in
+        let i : mid ≡ at + (length (e .colour) + 1) = omega arith in
+        let rest = f e mid ds end (g .inside) p′ in
+        let c : e .colour ≡ valuesAt ws (length (e .colour)) (at + 1) = g .colour ∙ ap (λ (m : ℕ). valuesAt ws m (at + 1)) (sym w) in
+        subst (λ (es : List Entry). Stand ws at es × Every (Fitting ps) es) (s .0) ((g .count, c, subst (λ (m : ℕ). Stand ws m ds) i (rest .0)), (w, rest .1))
+
+stand-size : (ws : List ℕ) (at : ℕ) (es : List Entry) → Stand ws at es → at + sizeOf es ≡ length ws
+unfolding sizeOf
+stand-size ws at [] s = omega arith
+stand-size ws at (e ∷ es) s = let h = stand-size ws (at + (length (e .colour) + 1)) es (s .2) in omega arith
+
+position-size : (es : List Entry) (k : List ℤ) → positionOf es k ≤ sizeOf es
+unfolding positionOf sizeOf
+position-size [] k = omega arith
+position-size (e ∷ es) k = by (position-size es k) (either (before (key (e .place) (e .colour)) k))
+  where
+    by : positionOf es k ≤ sizeOf es → (before (key (e .place) (e .colour)) k ≡ true) ⊎ (before (key (e .place) (e .colour)) k ≡ false) → cond (before (key (e .place) (e .colour)) k) (1 + length (e .colour)) 0 + positionOf es k ≤ 1 + length (e .colour) + sizeOf es
+    by h (inl t) = rw t (omega arith)
+    by h (inr t) = rw t (omega arith)
+
+-- ── The entry at the rank ──
+
+-- the count of the i-th of some entries, where it has a colour
+countAt : List Entry → ℕ → List ℤ → ℕ
+countAt [] i c = 0
+countAt (b ∷ bs) zero c = cond (sameTuple (b .colour) c) (b .count) 0
+countAt (b ∷ bs) (suc i) c = countAt bs i c
+
+unfoldable pub colours : List Entry → List (List ℤ)
+colours es = map (λ (e : Entry). e .colour) es
+
+-- no entry after one that is not before c has the colour c, but for that one
+counts-none : (p : ℕ) (c : List ℤ) (bs : List Entry) → Every (λ (b : Entry). sameTuple (b .colour) c ≡ false) bs → countsOf bs p c ≡ 0
+unfolding countsOf
+counts-none p c [] e = refl
+counts-none p c (b ∷ bs) e = rw (e .0, counts-none p c bs (e .1)) (by (eqb (b .place) p))
+  where
+    by : (t : Bool) → cond (t && false) (b .count) 0 + 0 ≡ 0
+    by true = refl
+    by false = refl
+
+differs : (x c : List ℤ) → before x c ≡ true → sameTuple x c ≡ false
+differs x c h = by (either (sameTuple x c))
+  where
+    by : (sameTuple x c ≡ true) ⊎ (sameTuple x c ≡ false) → sameTuple x c ≡ false
+    by (inl t) = absurd (before-irrefl c (subst (λ (y : List ℤ). before y c ≡ true) (tuple-same x c t) h))
+    by (inr t) = t
+
+differs-later : (x y c : List ℤ) → before x c ≡ false → before x y ≡ true → sameTuple y c ≡ false
+differs-later x y c h k = by (either (sameTuple y c))
+  where
+    by : (sameTuple y c ≡ true) ⊎ (sameTuple y c ≡ false) → sameTuple y c ≡ false
+    by (inl t) = absurd (not-both (before x c) (subst (λ (z : List ℤ). before x z ≡ true) (tuple-same y c t) k) h)
+    by (inr t) = t
+
+-- in a rising list of entries of a place
+counts-rank : (p : ℕ) (c : List ℤ) (bs : List Entry) → Every (λ (b : Entry). b .place ≡ p) bs → Rising (λ x. x) (colours bs) → countsOf bs p c ≡ countAt bs (rankOf (colours bs) c) c
+unfolding countsOf countAt rankOf colours
+counts-rank p c [] q r = refl
+counts-rank p c (b ∷ bs) q r = by (counts-rank p c bs (q .1) (r .1)) (either (before (b .colour) c))
+  where
+    later : before (b .colour) c ≡ false → (ds : List Entry) → Every (λ y. before (b .colour) y ≡ true) (colours ds) → Every (λ (d : Entry). sameTuple (d .colour) c ≡ false) ds
+    later t [] e = tt
+    later t (d ∷ ds) e = (differs-later (b .colour) (d .colour) c t (e .0), later t ds (e .1))
+
+    none-before : (x : List ℤ) (ys : List (List ℤ)) → Every (λ y. before x y ≡ true) ys → before x c ≡ false → rankOf ys c ≡ 0
+    none-before x ys e t = rank-none x ys c e t
+
+    by : countsOf bs p c ≡ countAt bs (rankOf (colours bs) c) c → (before (b .colour) c ≡ true) ⊎ (before (b .colour) c ≡ false) → countsOf (b ∷ bs) p c ≡ countAt (b ∷ bs) (cond (before (b .colour) c) 1 0 + rankOf (colours bs) c) c
+    by h (inl t) =
+        let i : 1 + rankOf (colours bs) c ≡ suc (rankOf (colours bs) c) = omega arith in
+        rw (t, i, differs (b .colour) c t, eq-eqb (b .place) p (q .0)) (omega arith)
+    by h (inr t) =
+        let z : 0 + rankOf (colours bs) c ≡ 0 = omega (arith, none-before (b .colour) (colours bs) (r .0) t) in
+        rw (t, z, eq-eqb (b .place) p (q .0), counts-none p c bs (later t bs (r .0))) (omega arith)
+
+-- the count of the i-th entry of a block, told from its words
+block-count : (ws : List ℕ) (p n k at i : ℕ) (c : List ℤ) → i < k → countAt (blockAt ws p n k at) i c ≡ cond (sameTuple (valuesAt ws n (at + i * (n + 1) + 1)) c) (getD ws (at + i * (n + 1)) 0 % 16384) 0
+unfolding blockAt countAt
+block-count ws p n zero at i c h = absurd (omega arith)
+block-count ws p n (suc k) at zero c h = let e : at + 0 * (n + 1) ≡ at = omega arith in rw e
+block-count ws p n (suc k) at (suc i) c h =
+    let m = suc-mul i (n + 1) in
+    let e : at + (n + 1) + i * (n + 1) ≡ at + suc i * (n + 1) = omega arith in
+    block-count ws p n k (at + (n + 1)) i c (omega arith) ∙ rw e
+
+block-past : (ws : List ℕ) (p n k at i : ℕ) (c : List ℤ) → k ≤ i → countAt (blockAt ws p n k at) i c ≡ 0
+unfolding blockAt countAt
+block-past ws p n zero at i c h = refl
+block-past ws p n (suc k) at zero c h = absurd (omega arith)
+block-past ws p n (suc k) at (suc i) c h = block-past ws p n k (at + (n + 1)) i c (omega arith)
+
+pub block-colours : (ws : List ℕ) (p n k at : ℕ) → colours (blockAt ws p n k at) ≡ coloursAt ws n k at
+unfolding blockAt coloursAt colours
+block-colours ws p n zero at = refl
+block-colours ws p n (suc k) at = ap (λ (l : List (List ℤ)). valuesAt ws n (at + 1) ∷ l) (block-colours ws p n k (at + (n + 1)))
+
+block-places : (p : ℕ) (es : List Entry) → Every (λ (b : Entry). b .place ≡ p) (block p es)
+unfolding block
+block-places p es = Every-of (λ (b : Entry). b .place ≡ p) (block p es) (λ b k. eqb-true (b .place) p (selected (on p) es k .1))
+
+-- entries of a place that rise have rising colours
+colours-rise : (p : ℕ) (bs : List Entry) → Every (λ (b : Entry). b .place ≡ p) bs → Rising entryKey bs → Rising (λ x. x) (colours bs)
+unfolding colours
+colours-rise p [] q r = tt
+colours-rise p (b ∷ bs) q r = (later bs (q .1) (r .0), colours-rise p bs (q .1) (r .1))
+  where
+    later : (ds : List Entry) → Every (λ (d : Entry). d .place ≡ p) ds → Every (λ (d : Entry). before (entryKey b) (entryKey d) ≡ true) ds → Every (λ y. before (b .colour) y ≡ true) (colours ds)
+    later [] f e = tt
+    later (d ∷ ds) f e =
+        let t : before (key p (b .colour)) (key p (d .colour)) ≡ true = rw (q .0, f .0) at (e .0) in
+        (sym (key-same p (b .colour) (d .colour)) ∙ t, later ds (f .1) (e .1))
+
+block-rises : (p : ℕ) (es : List Entry) → Rising entryKey es → Rising (λ x. x) (colours (block p es))
+unfolding block
+block-rises p es r = colours-rise p (block p es) (block-places p es) (rising-select entryKey (on p) es r)
+
+-- ── A place of a marking ──
+
+-- the entries of a place in a marking with these beginnings, and how the code sees them
+pub record Seen (ws begins : List ℕ) (p n : ℕ) (es : List Entry) : Type 0 where
+  pub from : getD begins p 0 ≡ beginOf es p
+  pub to : getD begins (p + 1) 0 ≡ beginOf es p + length (block p es) * (n + 1)
+  pub inside : getD begins (p + 1) 0 ≤ length ws
+  pub stands : blockAt ws p n (length (block p es)) (beginOf es p) ≡ block p es
+  pub rises : Rising (λ x. x) (colours (block p es))
+  pub wide : Every (Wide p n) es
+
+pub seen : (ws begins : List ℕ) (p n : ℕ) (ps : List Place) (es : List Entry) (next : ℕ) → p < 64 → markingRead ps ws ≡ read es next → Begins es begins → length (rangesAt ps p) ≡ n → Seen ws begins p n es
+unfolding markingRead
+seen ws begins p n ps es next h r b l =
+    let e = numbered-read badMarking (readEntries (length ws) ps ws [] 0) es next r in
+    let a = entries-read (length ws) ps ws [] 0 es next (omega arith) e in
+    let s = entries-stand (length ws) ps ws [] 0 es next (omega arith) e in
+    let w : Every (Wide p n) es = Every-of (Wide p n) es (λ d k q. Every-at (Fitting ps) (s .1) k ∙ ap (λ (i : ℕ). length (rangesAt ps i)) q ∙ l) in
+    let g = begin-next p n es w in
+    let m = b .at (p + 1) (omega arith) in
+    let z : 0 + beginOf es p ≡ beginOf es p = omega arith in
+    record {
+      from = b .at p (omega arith);
+      to = m ∙ g;
+      inside = omega (arith, position-size es (pos (p + 1) ∷ []), stand-size ws 0 es (s .0));
+      stands = rw z at (block-stands ws p n es 0 (a .rises) w (s .0));
+      rises = block-rises p es (a .rises);
+      wide = w;
+    }
+
+-- ── By the answers of the code ──
+
+module _ (ws begins : List ℕ) (p n : ℕ) (c : List ℤ) (wide : length c ≡ n) (few : p < 64) where
+  -- positions that are none of a marking's
+  pub spot-backwards : (r : Spot) → getD begins (p + 1) 0 < getD begins p 0 → IsSpot ws begins p c r
+  spot-backwards r h = record { found = λ ps es next m b l. let s = seen ws begins p n ps es next few m b (l ∙ wide) in absurd (omega (arith, s .from, s .to)) }
+
+  pub spot-outside : (r : Spot) → length ws < getD begins (p + 1) 0 → IsSpot ws begins p c r
+  spot-outside r h = record { found = λ ps es next m b l. let s = seen ws begins p n ps es next few m b (l ∙ wide) in absurd (omega (arith, s .inside)) }
+
+  module _ {i : ℕ} (r : IsRank (coloursAt ws n ((getD begins (p + 1) 0 - getD begins p 0) / (n + 1)) (getD begins p 0)) c i) where
+    rows : (es : List Entry) → Seen ws begins p n es → (getD begins (p + 1) 0 - getD begins p 0) / (n + 1) ≡ length (block p es)
+    rows es s =
+        let f = s .from in
+        let t = s .to in
+        let d : getD begins (p + 1) 0 - getD begins p 0 ≡ length (block p es) * (n + 1) = omega arith in
+        rw d (mul-div-cancel (length (block p es)) (omega arith))
+
+    ranked : (es : List Entry) → Seen ws begins p n es → i ≡ rankOf (colours (block p es)) c
+    ranked es s =
+        let e : coloursAt ws n ((getD begins (p + 1) 0 - getD begins p 0) / (n + 1)) (getD begins p 0) ≡ colours (block p es) = rw (rows es s, s .from) (sym (block-colours ws p n (length (block p es)) (beginOf es p)) ∙ ap colours (s .stands)) in
+        r .rank (subst (λ (l : List (List ℤ)). Rising (λ x. x) l) (sym e) (s .rises)) ∙ ap (λ (l : List (List ℤ)). rankOf l c) e
+
+    spot : (count : ℕ) → ((es : List Entry) → Seen ws begins p n es → count ≡ countAt (blockAt ws p n (length (block p es)) (beginOf es p)) i c) → IsSpot ws begins p c (record { at = getD begins p 0 + i * (n + 1); count = count })
+    unfolding colours
+    spot count f = record { found = λ ps es next m b l. by es (seen ws begins p n ps es next few m b (l ∙ wide)) }
+      where
+        by : (es : List Entry) → Seen ws begins p n es → (getD begins p 0 + i * (n + 1) ≡ positionOf es (key p c)) × (count ≡ countsOf es p c)
+        by es s = (
+          rw (s .from, ranked es s) (sym (position-rank p n c es (s .wide))),
+          f es s ∙ ap (λ (l : List Entry). countAt l i c) (s .stands) ∙ ap (λ (j : ℕ). countAt (block p es) j c) (ranked es s) ∙ sym (counts-rank p c (block p es) (block-places p es) (s .rises)) ∙ sym (counts-block p c es),
+        )
+
+    pub spot-past : (getD begins (p + 1) 0 - getD begins p 0) / (n + 1) ≤ i → IsSpot ws begins p c (record { at = getD begins p 0 + i * (n + 1); count = 0 })
+    spot-past h = spot 0 (λ es s. sym (block-past ws p n (length (block p es)) (beginOf es p) i c (rw (rows es s) at h)))
+
+    module _ (h : i < (getD begins (p + 1) 0 - getD begins p 0) / (n + 1)) {t : Bool} (e : t ≡ sameTuple (valuesAt ws n (getD begins p 0 + i * (n + 1) + 1)) c) where
+      there : (es : List Entry) (s : Seen ws begins p n es) → countAt (blockAt ws p n (length (block p es)) (beginOf es p)) i c ≡ cond t (getD ws (getD begins p 0 + i * (n + 1)) 0 % 16384) 0
+      there es s = block-count ws p n (length (block p es)) (beginOf es p) i c (rw (rows es s) at h) ∙ rw (e, s .from)
+
+      pub spot-found : t ≡ true → IsSpot ws begins p c (record { at = getD begins p 0 + i * (n + 1); count = getD ws (getD begins p 0 + i * (n + 1)) 0 % 16384 })
+      spot-found d = spot (getD ws (getD begins p 0 + i * (n + 1)) 0 % 16384) (λ es s. sym (rw d at (there es s)))
+
+      pub spot-differs : t ≡ false → IsSpot ws begins p c (record { at = getD begins p 0 + i * (n + 1); count = 0 })
+      spot-differs d = spot 0 (λ es s. sym (rw d at (there es s)))
+
+-- the rank among as many entries, told by another number
+pub ranked-same : (ws : List ℕ) (n from : ℕ) {k q : ℕ} {c : List ℤ} {r : ℕ} → k ≡ q → IsRank (coloursAt ws n k from) c r → IsRank (coloursAt ws n q from) c r
+ranked-same ws n from {c = c} {r = r} e x = subst (λ (m : ℕ). IsRank (coloursAt ws n m from) c r) e x
+
+-- so many entries as fit stand inside the words
+pub rows-inside : (from to size end : ℕ) → from ≤ to → to ≤ end → from + (to - from) / size * size ≤ end
+rows-inside from to size end h k = let m = div-mul-le-self (to - from) size in omega arith
+
+pub rank-inside : (from to size end i : ℕ) → from ≤ to → to ≤ end → i ≤ (to - from) / size → from + i * size ≤ end
+rank-inside from to size end i h k l =
+    let m = mul-le-mul-right size l in
+    let n = rows-inside from to size end h k in
+    omega arith
+
+pub row-inside : (from to size end i : ℕ) → from ≤ to → to ≤ end → i < (to - from) / size → from + i * size + size ≤ end
+row-inside from to size end i h k l = row-room from ((to - from) / size) size end i l (rows-inside from to size end h k)

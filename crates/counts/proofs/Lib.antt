@@ -1,0 +1,3 @@
+pub mod Ranked
+pub mod Blocks
+pub mod Found
