@@ -17,7 +17,7 @@ use Rattle.counts.proofs.Ranked.{colours-length, colours-at, row-room}
 use Rattle.arrivals.specs.declared.step.Step.{Step}
 use Rattle.tries.specs.Partial.{partialOf, matchedBy}
 use Rattle.tries.specs.Known.{Knows, Differs, DiffersIf}
-use Rattle.tries.specs.Solve.{solvedAt, HasConjunct}
+use Rattle.solving.specs.Solve.{solvedAt, HasConjunct}
 use Rattle.tries.specs.Range.{valueAt, upFrom}
 use Rattle.arrivals.specs.Step.{Inside, SafeBy, Safe, ReadyBy, Ready, triesOf, triesBy}
 use Rattle.tries.proofs.Knowing.{differs-fails}

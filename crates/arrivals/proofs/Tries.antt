@@ -36,14 +36,14 @@ use Rattle.counts.specs.Counts.{coloursAt}
 use Rattle.counts.proofs.Ranked.{colours-length}
 use Rattle.arrivals.specs.declared.step.Step.{Step}
 use Rattle.tries.specs.Partial.{matchedBy}
-use Rattle.tries.specs.Solve.{solvedAt, HasConjunct}
+use Rattle.solving.specs.Solve.{solvedAt, HasConjunct}
 use Rattle.tries.specs.Range.{valueAt, upFrom}
 use Rattle.arrivals.specs.Step.{Aimed, ReadyBy, Ready, triesOf, triesBy, Told, IsArrival}
 use Rattle.arrivals.specs.World.{World}
 use Rattle.arrivals.proofs.Attempting.{up-length}
 use Rattle.tries.proofs.Binding.{range-at}
 use Rattle.tries.proofs.Ranging.{range-values}
-use Rattle.tries.proofs.Solving.{side-is}
+use Rattle.solving.proofs.Solving.{side-is}
 use Rattle.arrivals.proofs.Heads.{heads-match}
 use Rattle.arrivals.proofs.Colours.{place-inside, place-colours}
 

@@ -1,5 +1,5 @@
 -- What an arrival at an element tries, told from positions. proofs/Tries.antt shows that in an accepted net and marking it is what semantics says.
--- Rests on semantics/specs/Tries, counts/specs/Counts and tries/specs/{Partial, Known, Solve, Range}.
+-- Rests on semantics/specs/Tries, counts/specs/Counts, tries/specs/{Partial, Known, Range} and solving/specs/Solve.
 use mathlib.Core.Path.{_≡_}
 use mathlib.Core.List.{List, [], _∷_, map}
 use mathlib.Core.Option.{Option, some}
@@ -19,7 +19,7 @@ use Rattle.counts.specs.Counts.{coloursAt}
 use Rattle.arrivals.specs.declared.step.Step.{Step}
 use Rattle.tries.specs.Partial.{matchedBy}
 use Rattle.tries.specs.Known.{Knows}
-use Rattle.tries.specs.Solve.{solvedAt, HasConjunct}
+use Rattle.solving.specs.Solve.{solvedAt, HasConjunct}
 use Rattle.tries.specs.Range.{valueAt, CountsValues, upFrom}
 
 -- words are the first ones of expressions

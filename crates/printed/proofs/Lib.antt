@@ -1,4 +1,2 @@
-pub mod Bindings
-pub mod Menus
 pub mod Parts
 pub mod Whole

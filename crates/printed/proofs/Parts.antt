@@ -32,7 +32,8 @@ use Rattle.text.specs.Put.{Put}
 use Rattle.text.proofs.Putting.{put-none}
 use Rattle.printed.specs.declared.part.Part.{Part}
 use Rattle.printed.specs.Texts.{menuTexts, markingTexts, netTexts, texts}
-use Rattle.printed.specs.Part.{IsPart, Accepts, IsNetPart, Ready, IsMenuText}
+use Rattle.offers.specs.Offers.{Ready, IsMenuText}
+use Rattle.printed.specs.Part.{IsPart, Accepts, IsNetPart}
 use Rattle.semantics.proofs.Cut.{front-alone, front-refused, headed}
 
 -- ── One part ──

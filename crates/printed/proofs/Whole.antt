@@ -33,7 +33,7 @@ use Rattle.semantics.proofs.Accepted.{SoundTransition, front-sound}
 use Rattle.semantics.proofs.Offer.{offer-made}
 use Rattle.text.proofs.Digits.{tenth}
 use Rattle.printed.specs.Texts.{menuTexts, markingTexts, netTexts, texts, parts, partText, firstParts}
-use Rattle.printed.proofs.Bindings.{Fit, menu-fits}
+use Rattle.offers.proofs.Bindings.{Fit, menu-fits}
 use Rattle.printed.proofs.Parts.{menus-length}
 
 -- ── The whole text ──

@@ -1,8 +1,8 @@
 // Parts of the printed text: one for each transition, or one for input that is refused.
-use crate::menu::put_menu;
 use accept::split::split;
 use expression::read::Skipped;
 use occurrence::situation::prepare;
+use offers::menu::put_menu;
 use text::line::put_bad_input;
 use word::bytes::words_of_bytes;
 ghost use mathlib.Core.Path.{_≡_};

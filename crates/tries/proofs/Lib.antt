@@ -4,4 +4,3 @@ pub mod Binding
 pub mod Agreeing
 pub mod Knowing
 pub mod Ranging
-pub mod Solving

@@ -1,4 +1,3 @@
 pub mod Partial
 pub mod Known
-pub mod Solve
 pub mod Range

@@ -1,4 +1,4 @@
-// The tries of a plan's elements, by their sorts, and the partial binding that each try goes on with.
+// The tries of matches and ranges, and the partial binding that each try goes on with.
 
 // Partial bindings.
 pub mod partial;
@@ -6,7 +6,5 @@ pub mod partial;
 pub mod colour;
 // What is known of an arc's components on arrival, and the colours that differ from it.
 pub mod known;
-// A solve try: a variable takes the value of the other side of an equation.
-pub mod solve;
 // A range try: a variable takes each value of its range.
 pub mod range;

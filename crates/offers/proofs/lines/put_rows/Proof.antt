@@ -1,9 +1,9 @@
--- `printed::lines::put_rows` meets its contract: the loop keeps the lines that are left.
+-- `crate::lines::put_rows` meets its contract: the loop keeps the lines that are left.
 use native.Mathlib.Omega.{arith}
 use borrow.Author.Needs.{needs}
-use Rattle.printed.proofs.Bindings.{LinesLeft, lines-all, lines-inside, lines-none, lines-again}
-use Rattle.printed.proofs.lines.put_rows.Statement.{statement}
-use Rattle.printed.proofs.lines.put_rows.Tie as tie
+use Rattle.offers.proofs.Bindings.{LinesLeft, lines-all, lines-inside, lines-none, lines-again}
+use Rattle.offers.proofs.lines.put_rows.Statement.{statement}
+use Rattle.offers.proofs.lines.put_rows.Tie as tie
 
 abbrev Inv-loop : tie.InvT-loop
 Inv-loop out₀ at words width n next₀ from₀ left₀ out next from left = LinesLeft out₀ at words width n out next from left

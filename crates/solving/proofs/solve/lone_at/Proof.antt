@@ -1,10 +1,10 @@
--- `tries::solve::lone_at` meets its contract: a slot that is looked at, by `Solving`.
+-- `crate::solve::lone_at` meets its contract: a slot that is looked at, by `Solving`.
 use mathlib.Core.Path.{sym, _∙_}
 use native.Mathlib.Omega.{arith}
 use borrow.Author.Needs.{needs}
-use Rattle.tries.proofs.Solving.{slot-bound, slot-unbound}
-use Rattle.tries.proofs.solve.lone_at.Statement.{statement}
-use Rattle.tries.proofs.solve.lone_at.Tie as tie
+use Rattle.solving.proofs.Solving.{slot-bound, slot-unbound}
+use Rattle.solving.proofs.solve.lone_at.Statement.{statement}
+use Rattle.solving.proofs.solve.lone_at.Tie as tie
 
 -- another word
 returns : tie.Need-returns

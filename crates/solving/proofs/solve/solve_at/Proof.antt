@@ -1,4 +1,4 @@
--- `tries::solve::solve_at` meets its contract: each answer by its rule in `Solving`.
+-- `crate::solve::solve_at` meets its contract: each answer by its rule in `Solving`.
 use mathlib.Core.Path.{refl}
 use Prim.Native.Nat.{_+_, _≤_}
 use native.Mathlib.Omega.{arith}
@@ -6,10 +6,10 @@ use borrow.Author.Needs.{needs}
 use lib.ListN.{length}
 use Rattle.net.specs.Places.{rangesFrom}
 use Rattle.word.proofs.Read.{read-back}
 use Rattle.tries.proofs.Slots.{tried-not, tried-same}
-use Rattle.tries.proofs.Solving.{all-slots, left-inside, left-unbound, left-value, left-none, left-unread, left-ends}
-use Rattle.tries.proofs.solve.solve_at.Statement.{statement}
-use Rattle.tries.proofs.solve.solve_at.Tie as tie
+use Rattle.solving.proofs.Solving.{all-slots, left-inside, left-unbound, left-value, left-none, left-unread, left-ends}
+use Rattle.solving.proofs.solve.solve_at.Statement.{statement}
+use Rattle.solving.proofs.solve.solve_at.Tie as tie
 
 add-lone-at : tie.Need-add-lone-at
 add-lone-at c = let st = c .before .before .before in let h : st .args .at + 2 ≤ 16384 = left-inside (st .pre .1) .1 in search needs

@@ -3,7 +3,7 @@ use text::line::put_row;
 ghost use Prim.Native.Nat.{_*_, _≤_};
 ghost use lib.ListN.{length};
 ghost use Rattle.text.specs.Put.{Put};
-ghost use Rattle.printed.specs.Part.{rowsText};
+ghost use Rattle.offers.specs.Offers.{rowsText};
 
 // A line for each of n rows of a width.
 pub fn put_rows(out: &mut [u8], at: usize, words: &[u32], width: usize, n: usize) -> usize

@@ -1,10 +1,10 @@
--- `printed::menu::put_menu` meets its contract: each return is a rule of `Menus`.
+-- `crate::menu::put_menu` meets its contract: each return is a rule of `Menus`.
 use Prim.Native.Nat.{ℕ}
 use borrow.Author.Needs.{needs}
 use lib.ListN.{length-replicate}
-use Rattle.printed.proofs.Menus.{found-room, found-text, withheld-text}
-use Rattle.printed.proofs.menu.put_menu.Statement.{statement}
-use Rattle.printed.proofs.menu.put_menu.Tie as tie
+use Rattle.offers.proofs.Menus.{found-room, found-text, withheld-text}
+use Rattle.offers.proofs.menu.put_menu.Statement.{statement}
+use Rattle.offers.proofs.menu.put_menu.Tie as tie
 
 put-rows-requires : tie.Need-put-rows-requires
 put-rows-requires c κs = let k = (c .before .before .before .before .before .before .before .before .before .before .menu2) .kept .1 .1 .1 .1 .0 in let h = found-room _ (c .before .before .before .before .before .before .before .before .before .before .before .before .before .before .before .pre) ((c .before .before .before .before .before .before .before .before .before .before .menu2) .ensures) (length-replicate {A = ℕ} 4096 0) ((c .before .before .before .before .before .before .before .n) .given .1) in rw (k) h

@@ -16,9 +16,9 @@ use Rattle.semantics.specs.ReadNet.{readExpression, readConjunct}
 use Rattle.semantics.specs.Plan.{Solution, eitherSide}
 use Rattle.semantics.specs.Tries.{Partial, partly, isBoundIn, bindNew}
 use Rattle.expression.specs.Evaluate.{lent, Valuation, valued, unread, evaluatedFrom}
-use Rattle.tries.specs.declared.solve.Lone.{Lone}
-use Rattle.tries.specs.declared.solve.Lone.the-variants.{Unbound, Nothing}
+use Rattle.solving.specs.declared.solve.Lone.{Lone}
+use Rattle.solving.specs.declared.solve.Lone.the-variants.{Unbound, Nothing}
 use Rattle.tries.specs.Partial.{partialOf, boundBy}
 
 -- a value that was told, if there is one
 abbrev pub valueIn : Valuation → Option ℤ

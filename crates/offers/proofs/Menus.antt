@@ -28,8 +28,8 @@ use Rattle.rows.specs.Rows.{rowsOf}
 use Rattle.search.specs.Search.{menuEnd}
 use Rattle.text.specs.Put.{Put}
 use Rattle.text.proofs.Putting.{put-then}
-use Rattle.printed.specs.Part.{rowsText, Ready, IsMenuText}
-use Rattle.printed.proofs.Bindings.{menu-fits, rows-back}
+use Rattle.offers.specs.Offers.{rowsText, Ready, IsMenuText}
+use Rattle.offers.proofs.Bindings.{menu-fits, rows-back}
 
 module _ (buffer : List ℕ) {ws ms after : List ℕ} {t width : ℕ} {a : Listed} (R : Ready ws t ms width) (E : menuEnd a after ≡ menuCall ws t ms 1000000 buffer) (size : length buffer ≡ 4096) where
   -- ── A menu that is found ──

@@ -24,7 +24,7 @@ use Rattle.rows.specs.Rows.{valuesOfWords, rowsOf}
 use Rattle.colours.proofs.Codes.{value-back}
 use Rattle.text.specs.Put.{Put, rowText}
 use Rattle.text.proofs.Putting.{Left, left-all, left-after, left-none}
-use Rattle.printed.specs.Part.{rowsText}
+use Rattle.offers.specs.Offers.{rowsText}
 
 -- ── Values ──
 

@@ -33,10 +33,10 @@ use Rattle.expression.specs.Evaluate.{valueOf, lent, evaluated, evaluatedFrom}
 use Rattle.expression.proofs.Spelled.{HeadWord, headOfTree}
 use Rattle.expression.proofs.Laws.{expression-short, first-word, variable-alone, read-evaluates, read-value, read-no-value}
 use Rattle.net.proofs.Placed.{word-here}
-use Rattle.tries.specs.declared.solve.Lone.the-variants.{Unbound, Nothing as NotLone}
+use Rattle.solving.specs.declared.solve.Lone.the-variants.{Unbound, Nothing as NotLone}
 use Rattle.tries.specs.Partial.{partialOf, boundBy}
-use Rattle.tries.specs.Solve.{valueIn, valueFor, IsLone, boundAt, unboundAlone, alone, sideOf, solvedBy, solvedFrom, solvedAt, HasConjunct}
+use Rattle.solving.specs.Solve.{valueIn, valueFor, IsLone, boundAt, unboundAlone, alone, sideOf, solvedBy, solvedFrom, solvedAt, HasConjunct}
 use Rattle.tries.proofs.Slots.{slots-lent, slot-read}
 
 -- ── A slot that is looked at ──
 

@@ -3,7 +3,7 @@ use crate::lines::put_rows;
 use semantics::Listed;
 use text::line::put_numbers;
 use text::line::put_withheld;
-ghost use Rattle.printed.specs.Part.{Ready, IsMenuText};
+ghost use Rattle.offers.specs.Offers.{Ready, IsMenuText};
 
 // The transition's number, N and W and the bindings, or the number of the menu's refusal.
 pub fn put_menu(

@@ -1,9 +1,9 @@
 // A solve try: the lone unbound variable on one side of an equation takes the value of the other side. That a side fits was settled when the plan
 // was accepted, so one look at the left side decides.
-use crate::partial::bind_new;
 use expression::evaluate::Evaluated;
 use expression::evaluate::evaluate;
 use expression::evaluate::value_of;
+use tries::partial::bind_new;
 use word::fields::kind;
 use word::fields::payload;
 use word::number::Number;
@@ -11,8 +11,8 @@ ghost use mathlib.Core.Path.{_≡_};
 ghost use Prim.Native.Nat.{_≤_, _<_, _+_};
 ghost use lib.ListN.{length};
 ghost use Rattle.net.specs.Places.{rangesFrom};
 ghost use Rattle.tries.specs.Partial.{partialOf, boundBy, IsTried};
-ghost use Rattle.tries.specs.Solve.{valueFor, IsLone, boundAt, solvedAt, HasConjunct};
+ghost use Rattle.solving.specs.Solve.{valueFor, IsLone, boundAt, solvedAt, HasConjunct};
 
 // A variable takes the value of the expression at a position, where it has one in the variable's range.
 fn bind_value(

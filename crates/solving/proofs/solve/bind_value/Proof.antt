@@ -1,4 +1,4 @@
--- `tries::solve::bind_value` meets its contract: each answer by its rule in `Solving`.
+-- `crate::solve::bind_value` meets its contract: each answer by its rule in `Solving`.
 use mathlib.Core.Path.{refl}
 use Prim.Native.Nat.{_≤_}
 use native.Mathlib.Omega.{arith}
@@ -6,10 +6,10 @@ use borrow.Author.Needs.{needs}
 use lib.ListN.{length}
 use Rattle.net.specs.Places.{rangesFrom}
 use Rattle.word.proofs.Read.{read-back}
 use Rattle.tries.proofs.Slots.{tried-not, tried-same}
-use Rattle.tries.proofs.Solving.{all-slots, bound-value, bound-none, bound-unread}
-use Rattle.tries.proofs.solve.bind_value.Statement.{statement}
-use Rattle.tries.proofs.solve.bind_value.Tie as tie
+use Rattle.solving.proofs.Solving.{all-slots, bound-value, bound-none, bound-unread}
+use Rattle.solving.proofs.solve.bind_value.Statement.{statement}
+use Rattle.solving.proofs.solve.bind_value.Tie as tie
 
 -- a value
 returns : tie.Need-returns

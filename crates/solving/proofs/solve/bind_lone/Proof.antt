@@ -1,13 +1,13 @@
--- `tries::solve::bind_lone` meets its contract: the kind of the word decides.
+-- `crate::solve::bind_lone` meets its contract: the kind of the word decides.
 use mathlib.Core.Path.{refl, sym, _∙_}
 use borrow.Author.Needs.{needs}
 use mir.Facts.{toZ-ofZ}
 use Rattle.net.specs.Places.{rangesFrom}
 use Rattle.tries.specs.Partial.{partialOf}
 use Rattle.tries.proofs.Slots.{tried-not, tried-same}
-use Rattle.tries.proofs.Solving.{lone-other, lone-bound}
-use Rattle.tries.proofs.solve.bind_lone.Statement.{statement}
-use Rattle.tries.proofs.solve.bind_lone.Tie as tie
+use Rattle.solving.proofs.Solving.{lone-other, lone-bound}
+use Rattle.solving.proofs.solve.bind_lone.Statement.{statement}
+use Rattle.solving.proofs.solve.bind_lone.Tie as tie
 
 -- another word
 returns : tie.Need-returns
