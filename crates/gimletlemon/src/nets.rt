@@ -2,8 +2,7 @@
 use accept::check::check;
 use accept::split::split;
 use answers::tell::tell_check;
-use semantics::Verdict;
-use word::bytes::words_of_bytes;
+use byte_calls::check::check_bytes;
 ghost use mathlib.Core.Path.{_≡_};
 ghost use Prim.Native.Nat.{_-_};
 ghost use lib.ListN.{length, drop};
@@ -11,19 +10,6 @@ ghost use Rattle.semantics.specs.Answer.{checkRefusal};
 ghost use Rattle.semantics.specs.Calls.{checkCall, splitCall, checkBytesCall};
 ghost use Rattle.accept.specs.Front.{splitInto};
 ghost use Rattle.answers.specs.Told.{told};
-
-// Check on little-endian bytes. No reader looks past the word 16,384, so the words before it and that one are enough.
-pub fn check_bytes(net: &[u8]) -> Verdict
-    ensures { λ r. ⌜ r ≡ checkBytesCall (now (net .entry)) ⌝ }
-{
-    let count = net.len() / 4;
-    if net.len() % 4 != 0 {
-        return Verdict::Refused(2, count);
-    }
-    let mut words = [0u32; 16385];
-    let n = words_of_bytes(net, &mut words);
-    check(&words[..n])
-}
 
 // Check: the refusal's number, 0 where the net is accepted; its position is written, 0 where there is none.
 #[no_mangle]

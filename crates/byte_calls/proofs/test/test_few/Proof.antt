@@ -1,11 +1,11 @@
--- `gimletlemon::test::test_words` meets its contract: the first 16,385 words of each slice are tested in place of all.
+-- `byte_calls::test::test_few` meets its contract: its buffers hold all words.
 use mathlib.Core.Path.{sym}
 use native.Mathlib.Omega.{arith}
 use lib.Seq.{length-take-le}
-use Rattle.gimletlemon.proofs.Telling.{first-words, words-tested}
+use Rattle.byte_calls.proofs.Words.{all-words}
 use borrow.Author.Needs.{needs}
-use Rattle.gimletlemon.proofs.test.test_words.Statement.{statement}
-use Rattle.gimletlemon.proofs.test.test_words.Tie as tie
+use Rattle.byte_calls.proofs.test.test_few.Statement.{statement}
+use Rattle.byte_calls.proofs.test.test_few.Tie as tie
 
 slice-aggregate-test : tie.Need-slice-aggregate-test
 slice-aggregate-test c = let e = c .before .before .before .before .before .before .before .before .words-of-bytes .ensures .0 in sym (length-take-le _ _ (omega arith))
@@ -21,10 +21,11 @@ returns c =
     let n = c .before .before .before .before .before .before .before .before .before .before .before .words-of-bytes .ensures in
     let m = c .before .before .before .before .before .before .before .before .words-of-bytes2 .ensures in
     let b = c .before .before .before .before .before .words-of-bytes3 .ensures in
-    words-tested _ _ _ _ (first-words _ _ _ _ (n .0) (n .1)) (first-words _ _ _ _ (m .0) (m .1)) (first-words _ _ _ _ (b .0) (b .1)) (c .test .ensures)
+    let few = c .before .before .before .before .before .before .before .before .before .before .before .before .before .before .before .before .pre in
+    rw (← all-words _ _ _ _ 1024 (few .0) (n .0) (n .1), ← all-words _ _ _ _ 1024 (few .1 .0) (m .0) (m .1), ← all-words _ _ _ _ 16 (few .1 .1) (b .0) (b .1)) (c .test .ensures)
 
-pub test-words-spec : {M : Type 1} → statement M
-test-words-spec =
+pub test-few-spec : {M : Type 1} → statement M
+test-few-spec =
     tie.close
     (tie.spec
     (λ c. search needs)

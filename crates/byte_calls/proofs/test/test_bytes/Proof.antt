@@ -1,8 +1,8 @@
--- `gimletlemon::test::test_bytes` meets its contract: bad lengths are refused in order, and then the words are tested.
-use Rattle.gimletlemon.proofs.Telling.{test-refused-net, test-refused-marking, test-refused-binding, bytes-tested}
+-- `byte_calls::test::test_bytes` meets its contract: bad lengths are refused in order, and then the words are tested.
+use Rattle.byte_calls.proofs.Words.{test-refused-net, test-refused-marking, test-refused-binding, bytes-tested}
 use borrow.Author.Needs.{needs}
-use Rattle.gimletlemon.proofs.test.test_bytes.Statement.{statement}
-use Rattle.gimletlemon.proofs.test.test_bytes.Tie as tie
+use Rattle.byte_calls.proofs.test.test_bytes.Statement.{statement}
+use Rattle.byte_calls.proofs.test.test_bytes.Tie as tie
 
 returns : tie.Need-returns
 returns c = test-refused-net _ _ _ _ (c .if1 .taken)
