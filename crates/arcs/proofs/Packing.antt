@@ -2,7 +2,7 @@
 -- range, and as long as all are in range the code is theirs.
 use mathlib.Core.Path.{_≡_, refl, sym, ap, _∙_, subst}
 use Prim.Native.Nat.{ℕ, zero, suc, _+_, _-_, _*_, _%_, _≤_, _<_, _^_}
-use mathlib.Core.Bool.{Bool, true, false, not, _&&_, and-assoc}
+use mathlib.Core.Bool.{Bool, true, false, not, _&&_, and-true, and-assoc}
 use mathlib.Core.List.{List, [], _∷_, _++_, append-nil}
 use mathlib.Core.Option.{Option, none, some}
 use native.Mathlib.Nat.{pow-suc}
@@ -57,11 +57,7 @@ module _ {c : Coded} (range : ℕ) (z : ℤ) where
 
 ranges-behind : (ws : List ℕ) (n at : ℕ) (vs : List ℤ) (z : ℤ) → length vs ≡ n → inRanges (rangesFrom ws (suc n) at) (vs ++ (z ∷ [])) ≡ (inRanges (rangesFrom ws n at) vs && within (rangeWord (getD ws (at + n) 0)) z)
 unfolding inRanges rangesFrom
-ranges-behind ws zero at [] z l = let e : at + 0 ≡ at = omega arith in rw e (last (within (rangeWord (getD ws at 0)) z))
-  where
-    last : (t : Bool) → (t && true) ≡ t
-    last true = refl
-    last false = refl
+ranges-behind ws zero at [] z l = let e : at + 0 ≡ at = omega arith in rw e (and-true (within (rangeWord (getD ws at 0)) z))
 ranges-behind ws zero at (v ∷ vs) z l = absurd (omega arith)
 ranges-behind ws (suc n) at [] z l = absurd (omega arith)
 ranges-behind ws (suc n) at (v ∷ vs) z l =

@@ -115,7 +115,7 @@ pub collected-start : (R : Reader (Unit {0})) (n at : ℕ) (begins : List ℕ) �
 collected-start R n at begins = record { gathered = gathered-start (λ k. starts k R) n at }
 
 -- one more is written
-pub take-set : (l : List ℕ) (i a : ℕ) → i < length l → take (i + 1) (set l i a) ≡ take i l ++ (a ∷ [])
+pub take-set : {A : Type 0} (l : List A) (i : ℕ) (a : A) → i < length l → take (i + 1) (set l i a) ≡ take i l ++ (a ∷ [])
 take-set l i a h = ap (λ (k : ℕ). take k (set l i a)) (add-one i) ∙ take-suc-set l i a h
 
 module _ {R : Reader (Unit {0})} {n at i next : ℕ} {begins : List ℕ} (a : Collected R n at i next begins) where
