@@ -10,7 +10,7 @@ use native.Mathlib.Omega.{arith}
 use borrow.Author.Needs.{needs}
 use lib.ListN.{length, getD, drop, take, set, replicate, drop-of-length-le}
 use lib.Seq.{drop-cons}
-use Rattle.semantics.specs.Plan.{member, everyBelow, fitOr}
+use Rattle.semantics.specs.Plan.{member, everyBelow, fitOr, firstOf as firstFault}
 use Rattle.semantics.specs.Net as net
 use Rattle.semantics.specs.Reading.{read, refused}
 use Rattle.semantics.specs.ReadNet.{readElement, sortOf}
@@ -33,7 +33,7 @@ use Rattle.plans.specs.declared.element.Sort.the-variants.{Match, Solve,
 use Rattle.plans.specs.declared.plan.Fault.{Fault}
 use Rattle.plans.specs.declared.plan.Fault.the-variants.{Nothing}
 use Rattle.plans.specs.declared.plan.Reviewed.{Reviewed}
-use Rattle.plans.specs.Fitness.{unboundOf, matchAt, solveAt, bindsAt, planParts, elementOr, faultFrom, faultIn, transitionFault, firstFault, faultAmong}
+use Rattle.plans.specs.Fitness.{unboundOf, matchAt, solveAt, bindsAt, planParts, elementOr, faultFrom, faultIn, transitionFault, faultAmong}
 use Rattle.plans.specs.Plan.{sorted, marked, nonEmpty, fresh, IsBound, fault, IsReviewed, AreReviewed}
 use Rattle.plans.proofs.Binding.{bound-none}
 
