@@ -10,16 +10,14 @@ use native.Mathlib.Numerals.{add-one}
 use native.Mathlib.Omega.{arith}
 use borrow.Author.Tests.{not-true, not-false}
 use lib.IntN.{ℤ}
-use lib.Signed.{mag}
 use lib.ListN.{length, getD, length-append}
-use Rattle.semantics.specs.Word.{bits, signed, within, valueWord}
+use Rattle.semantics.specs.Word.{signed, within, valueWord}
 use Rattle.semantics.specs.Expression.{valuesOf}
 use Rattle.semantics.specs.Reading.{several}
 use Rattle.semantics.specs.Order.{inRanges}
 use Rattle.semantics.proofs.Tests.{false-true, and-left}
-use Rattle.semantics.proofs.Words.{within-mag}
-use Rattle.semantics.proofs.Accepted.{signed-small}
 use Rattle.word.specs.Fields.{rangeWord}
+use Rattle.word.proofs.Words.{range-small}
 use Rattle.net.specs.Places.{rangesFrom}
 use Rattle.marking.specs.Code.{ofDigit, coloured, IsCode}
 use Rattle.marking.proofs.Codes.{code-start, code-behind, code-room, code-below, value-back}
@@ -32,10 +30,6 @@ use Rattle.arcs.proofs.Evaluating.{Valued, Unread}
 use Rattle.arcs.proofs.Colours.{front, front-nil, front-front, colour-value, colour-none, colour-unread}
 
 -- ── One component ──
-
--- a value in the range of a RANGE word has 14 bits
-range-small : (range : ℕ) (z : ℤ) → within (rangeWord range) z ≡ true → mag z < 8192
-range-small range z e = within-mag (rangeWord range) z (signed-small (bits 14 27 range) (omega arith)) (signed-small (bits 0 13 range) (omega arith)) e
 
 module _ {c : Coded} (range : ℕ) (z : ℤ) where
   pub put-kept : not (c .inside) ≡ true → IsPut c range z c
