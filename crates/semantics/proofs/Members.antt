@@ -7,7 +7,7 @@ use mathlib.Core.Option.{Option, none, some, Option·map}
 use Prim.Native.Nat.{ℕ, zero, suc, _≤_, _<_}
 use native.Mathlib.Nat.{le-of-suc-le-suc, not-suc-le-zero}
 use native.Mathlib.Omega.{arith}
-use lib.ListN.{length, getD, getElem?}
+use lib.ListN.{length, getD, getElem?, replicate}
 use Rattle.semantics.specs.Lists.{Every}
 
 module _ {A : Type 0} where
@@ -86,3 +86,9 @@ map-elem f (x ∷ xs) (suc n) a d e = map-elem f xs n a d e
 
 pub map-number : {A B : Type 0} (f : A → B) (l : List A) (n : ℕ) (c : A) (d : B) → n < length l → getD (map f l) n d ≡ f (getD l n c)
 map-number f l n c d h = map-elem f l n (getD l n c) d (elem-number l n c h)
+
+-- past the end stands what stands before it
+pub replicate-same : {A : Type 0} (n i : ℕ) (a : A) → getD (replicate n a) i a ≡ a
+replicate-same zero i a = refl
+replicate-same (suc n) zero a = refl
+replicate-same (suc n) (suc i) a = replicate-same n i a
