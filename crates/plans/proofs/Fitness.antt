@@ -20,7 +20,7 @@ use Rattle.semantics.specs.ReadNet.{readExpression, readArc, relationOf, readCo
 use Rattle.semantics.specs.Plan.{loneUnbound, positiveConstant, solvedBy, eitherSide, isEquation, solution, solutionBinds, matchBinds, solveBinds, newlyBound, member, fitOr, planFault, plansFault}
 use Rattle.semantics.proofs.Readers.{Gives, gives, given, then-gives, as-read}
 use Rattle.semantics.proofs.Tests.{false-true, either, Every-at}
-use Rattle.semantics.proofs.Accepted.{SoundArc, SoundConjunct, SoundTransition}
+use Rattle.semantics.proofs.Accepted.{SoundExpression, SoundArc, SoundConjunct, SoundTransition}
 use Rattle.semantics.proofs.Partial.{member-append}
 use Rattle.semantics.proofs.Members.{at-member, map-at}
 use Rattle.semantics.proofs.Spans.{several-split, several-length}
@@ -98,11 +98,7 @@ several-first {A} r k at x xs next e =
     let h : s .others ≡ xs = cc in
     (s .mid, s .reads ∙ ap (λ (a : A). read a (s .mid)) g, s .rest ∙ ap (λ (l : List A). read l next) h)
 
--- variables are below v
-abbrev Below : ℕ → Expression → Type 0
-Below v e = everyVariable (λ n. ltb n v) e ≡ true
-
-lone-from : (ws : List ℕ) (v : ℕ) (isBound : ℕ → Bool) (k at : ℕ) (es : List Expression) (next : ℕ) → several k (readExpression ws v) at ≡ read es next → Every (Below v) es → loneFrom ws v isBound k at ≡ loneUnbound isBound es
+lone-from : (ws : List ℕ) (v : ℕ) (isBound : ℕ → Bool) (k at : ℕ) (es : List Expression) (next : ℕ) → several k (readExpression ws v) at ≡ read es next → Every (SoundExpression v) es → loneFrom ws v isBound k at ≡ loneUnbound isBound es
 unfolding loneFrom loneUnbound
 lone-from ws v isBound zero at [] next r b = refl
 lone-from ws v isBound zero at (e ∷ es) next r b = let h = several-length (readExpression ws v) zero at (e ∷ es) next r in absurd (omega arith)
@@ -184,7 +180,7 @@ module _ (ws : List ℕ) (v from : ℕ) (k : ℕ → List ℕ) where
       by (binary o x y) r h = other (binary o x y) r (nine h)
       by (load x) r h = other (load x) r (nine h)
 
-match-at : (ws : List ℕ) (places : List Place) (v : ℕ) (isBound : ℕ → Bool) (a : Arc) → At (readArc ws places v) (λ (a : Arc). a .position) a → Every (Below v) (a .components) → matchAt ws (map width places) v isBound (a .position) ≡ cond (positiveConstant (a .coefficient)) (loneUnbound isBound (a .components)) []
+match-at : (ws : List ℕ) (places : List Place) (v : ℕ) (isBound : ℕ → Bool) (a : Arc) → At (readArc ws places v) (λ (a : Arc). a .position) a → Every (SoundExpression v) (a .components) → matchAt ws (map width places) v isBound (a .position) ≡ cond (positiveConstant (a .coefficient)) (loneUnbound isBound (a .components)) []
 unfolding matchAt
 match-at ws places v isBound a here b =
     let p = given (arc-parts ws places v (a .position)) (here .reads) in
@@ -254,7 +250,7 @@ equation-code k = by (eqb k 0) (eqb k 1) (eqb k 2)
     by false false true = refl
     by false false false = refl
 
-solve-at : (ws : List ℕ) (v : ℕ) (isBound : ℕ → Bool) (c : Conjunct) → At (readConjunct ws v) (λ (c : Conjunct). c .position) c → Below v (c .left) → Below v (c .right) → solveAt ws v isBound (c .position) ≡ solutionBinds (solution isBound c)
+solve-at : (ws : List ℕ) (v : ℕ) (isBound : ℕ → Bool) (c : Conjunct) → At (readConjunct ws v) (λ (c : Conjunct). c .position) c → SoundExpression v (c .left) → SoundExpression v (c .right) → solveAt ws v isBound (c .position) ≡ solutionBinds (solution isBound c)
 unfolding solveAt solution allBound
 solve-at ws v isBound c here bl br =
     let p = given (conjunct-parts ws v (c .position)) (here .reads) in
