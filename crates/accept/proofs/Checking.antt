@@ -15,7 +15,7 @@ use Rattle.semantics.specs.Reading.{Reading, read, refused, then}
 use Rattle.semantics.specs.Net.{Transition, Net}
 use Rattle.semantics.specs.ReadNet.{readNet}
 use Rattle.semantics.specs.Plan.{plansFault, withPlans, acceptFront, acceptNet}
-use Rattle.semantics.specs.Calls.{verdict, checkCall, splitBy, splitCall}
+use Rattle.semantics.specs.Calls.{checkCall, splitCall}
 use Rattle.semantics.proofs.Tests.{false-true}
 use Rattle.semantics.proofs.Accepted.{read-sound, front-inside}
 use Rattle.expression.specs.declared.read.Skipped.{Skipped}
@@ -24,7 +24,7 @@ use Rattle.net.specs.declared.index.NetIndex.{NetIndex}
 use Rattle.net.specs.Skim.{changed, NetOutline, netOutline, width, skimNet}
 use Rattle.net.specs.Index.{upTo, outlinedNet, netRead}
 use Rattle.net.proofs.Skimming.{skim-net, widths-of}
-use Rattle.net.proofs.Loops.{forget-changed}
+use Rattle.net.proofs.Loops.{forget-changed, changed-refused}
 use Rattle.net.proofs.Transitions.{skips}
 use Rattle.net.proofs.Nets.{seconds}
 use Rattle.net.proofs.Located.{net-transitions}
@@ -35,6 +35,7 @@ use Rattle.plans.specs.Plan.{fault}
 use Rattle.accept.specs.Front.{acceptTo, unlessUnfit, settle, IsExtent, InWords, IsFront, splitInto}
 use Rattle.accept.specs.declared.accepted.Extent.{Extent}
 use Rattle.expression.specs.Skip.{forget, skipped}
+use Rattle.expression.proofs.Laws.{passed-read, passed-refused}
 use Rattle.plans.proofs.Fitness.{net-fault}
 
 -- the first n of a list that has m, by the lesser of the two
@@ -56,11 +57,7 @@ record Found (ws : List ℕ) (i : NetIndex) (next : ℕ) : Type 0 where
   begins-are : map (λ (t : Transition). t .position) (net .transitions) ≡ take (i .transitions) (i .«transitions_at»)
 
 unread-net : (ws : List ℕ) {n p : ℕ} → skimNet ws 0 ≡ refused n p → readNet ws 0 ≡ refused n p
-unread-net ws {n} {p} e = by (readNet ws 0) (skim-net ws 0 ∙ e)
-  where
-    by : (r : Reading Net) → changed netOutline r ≡ refused n p → r ≡ refused n p
-    by (read net next) h = false-true (cc)
-    by (refused m q) h = let a : m ≡ n = cc in let b : q ≡ p = cc in ap (λ (k : ℕ). refused k q) a ∙ ap (refused n) b
+unread-net ws e = changed-refused netOutline (readNet ws 0) (skim-net ws 0 ∙ e)
 
 refused-net : (ws : List ℕ) {n p : ℕ} → skimNet ws 0 ≡ refused n p → (least : ℕ) → refused n p ≡ changed netOutline (acceptTo ws least)
 unfolding acceptTo
@@ -145,53 +142,28 @@ index-read (refused m q) i {next} x e =
     false-true (cc)
 
 pub index-refused : (r : Reading Net) (i : NetIndex) {n p : ℕ} → netRead i ≡ changed netOutline r → i .end ≡ Refused n p → r ≡ refused n p
-index-refused (read net k) i {n} {p} x e =
-    let y : refused n p ≡ read (netOutline net) k = sym (ap (λ (k : Skipped). upTo k (outlinedNet i)) e) ∙ x in
-    false-true (cc)
-index-refused (refused m q) i {n} {p} x e =
-    let y : refused n p ≡ refused m q = sym (ap (λ (k : Skipped). upTo k (outlinedNet i)) e) ∙ x in
-    cc
+index-refused r i x e = changed-refused netOutline r (sym x ∙ ap (λ (k : Skipped). upTo k (outlinedNet i)) e)
 
 module _ (ws : List ℕ) {s : Skipped} (x : skipped s ≡ forget (acceptNet ws)) where
   pub checked-refused : {n p : ℕ} → s ≡ Refused n p → CheckRefused n p ≡ checkCall ws
   unfolding checkCall
-  checked-refused {n} {p} e = by (acceptNet ws) (sym (ap skipped e) ∙ x)
-    where
-      by : (r : Reading Net) → refused n p ≡ forget r → CheckRefused n p ≡ verdict r
-      by (read net k) h = false-true (cc)
-      by (refused m q) h = let a : n ≡ m = cc in let b : p ≡ q = cc in rw (a, b)
+  checked-refused e = rw (passed-refused (acceptNet ws) s x e)
 
   pub checked-accepted : {next : ℕ} → s ≡ Next next → Accepted ≡ checkCall ws
   unfolding checkCall
-  checked-accepted {next} e = by (acceptNet ws) (sym (ap skipped e) ∙ x)
-    where
-      by : (r : Reading Net) → read tt next ≡ forget r → Accepted ≡ verdict r
-      by (read net k) h = refl
-      by (refused m q) h = false-true (cc)
+  checked-accepted e = rw (passed-read (acceptNet ws) s x e .1)
 
 pub front-ends : (ws : List ℕ) (s : Skipped) → skipped s ≡ forget (acceptFront ws) → IsFront ws s
 front-ends ws (Refused n p) x = record { same = x; inside = tt }
-front-ends ws (Next next) x = record { same = x; inside = by (acceptFront ws) refl x }
-  where
-    by : (r : Reading Net) → acceptFront ws ≡ r → read tt next ≡ forget r → next ≤ length ws
-    by (read net k) e h = let a : k ≡ next = cc in front-inside ws net next (rw a at e) .in-words
-    by (refused m q) e h = false-true (cc)
+front-ends ws (Next next) x = let r = passed-read (acceptFront ws) (Next next) x refl in record { same = x; inside = front-inside ws (r .0) next (r .1) .in-words }
 
 pub split-next : (ws : List ℕ) {s : Skipped} {next : ℕ} → IsFront ws s → s ≡ Next next → splitInto (drop next ws) 0 0 ≡ splitCall ws
 unfolding splitCall
-split-next ws {s} {next} f e = by (acceptFront ws) (sym (ap skipped e) ∙ f .same)
-  where
-    by : (r : Reading Net) → read tt next ≡ forget r → splitInto (drop next ws) 0 0 ≡ splitBy ws r
-    by (read net n) h = let a : next ≡ n = cc in rw a
-    by (refused m q) h = false-true (cc)
+split-next ws {s} f e = rw (passed-read (acceptFront ws) s (f .same) e .1)
 
 pub split-refused : (ws : List ℕ) {s : Skipped} {n p : ℕ} → IsFront ws s → s ≡ Refused n p → splitInto [] n p ≡ splitCall ws
 unfolding splitCall
-split-refused ws {s} {n} {p} f e = by (acceptFront ws) (sym (ap skipped e) ∙ f .same)
-  where
-    by : (r : Reading Net) → refused n p ≡ forget r → splitInto [] n p ≡ splitBy ws r
-    by (read net k) h = false-true (cc)
-    by (refused m q) h = let a : n ≡ m = cc in let b : p ≡ q = cc in rw (a, b)
+split-refused ws {s} f e = rw (passed-refused (acceptFront ws) s (f .same) e)
 
 pub split-inside : (ws : List ℕ) {s : Skipped} {next : ℕ} → IsFront ws s → s ≡ Next next → next ≤ length ws
 split-inside ws f e = subst (InWords ws) e (f .inside)

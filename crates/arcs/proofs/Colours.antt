@@ -1,12 +1,10 @@
 -- The colour of several expressions is that of the first one in front of that of the others. Lists that may be missing, put one after the other.
-use mathlib.Core.Path.{_≡_, refl, ap, _∙_}
-use Prim.Native.Nat.{ℕ, suc, _+_, _<_}
+use mathlib.Core.Path.{_≡_, refl, ap}
+use Prim.Native.Nat.{ℕ, suc}
 use mathlib.Core.List.{List, [], _∷_, _++_, append-assoc}
 use mathlib.Core.Option.{Option, none, some, bind}
-use native.Mathlib.Numerals.{add-one}
 use lib.IntN.{ℤ}
-use lib.ListN.{length, take, set}
-use lib.Seq.{take-suc-set}
+use lib.ListN.{length}
 use Rattle.semantics.specs.Expression.{Expression, houseTable, valuesOf}
 use Rattle.semantics.specs.Reading.{Reading, read, refused, then, several}
 use Rattle.semantics.specs.ReadNet.{readExpression}
@@ -33,10 +31,6 @@ pub front-bind : {A : Type 0} (x : A) (o : Option (List A)) → bind o (λ xs. s
 unfolding bind
 front-bind x none = refl
 front-bind x (some xs) = refl
-
--- one more is written
-pub take-set : {A : Type 0} (l : List A) (i : ℕ) (a : A) → i < length l → take (i + 1) (set l i a) ≡ take i l ++ (a ∷ [])
-take-set l i a h = ap (λ (k : ℕ). take k (set l i a)) (add-one i) ∙ take-suc-set l i a h
 
 -- ── One component ──
 

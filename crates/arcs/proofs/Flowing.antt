@@ -1,10 +1,11 @@
 -- The rules of an arc: one for each arm of the code. What is left once its coefficient is read is its colour.
 use mathlib.Core.Path.{_≡_, refl, sym, ap, _∙_}
 use mathlib.Core.Logic.{_⊎_, inl, inr}
-use Prim.Native.Nat.{ℕ, zero, suc, _+_, _*_, _/_, _%_, _≤_, _<_, _^_}
+use Prim.Native.Nat.{ℕ, _+_, _*_, _/_, _%_, _≤_, _<_, _^_}
 use mathlib.Core.Bool.{true, false}
 use mathlib.Core.List.{List}
 use mathlib.Core.Option.{Option, none, some, bind}
+use native.Mathlib.Nat.{pos-of-ne-zero}
 use native.Mathlib.Omega.{arith}
 use borrow.Author.Tests.{lt-ltb, le-ltb, eqb-true, eqb-false}
 use lib.Dec.{ltb, eqb}
@@ -148,15 +149,8 @@ module _ (ws ps bs : List ℕ) (at : ℕ) {t : Taken} (w : IsTaken ws at 5 t) wh
               let b = code-below (widthOf ws ps q) k (fits-at f q h .narrow) (y .1) in
               let i : (q * 2 ^ 56 + k) / 2 ^ 56 ≡ q = omega arith in
               let j : (q * 2 ^ 56 + k) % 2 ^ 56 ≡ k = omega arith in
-              let z : 1 ≤ n = above (eqb-false n 0 t) in
+              let z : 1 ≤ n = pos-of-ne-zero (eqb-false n 0 t) in
               rw (t, i, j) (told (y .0), record { there = rw i h; small = rw (i, j) (y .1); ranged = rw (i, j, place-ranges) (y .2) }, z)
-            where
-              above : (n ≡ 0 → ⊥) → 1 ≤ n
-              above d = one n d
-                where
-                  one : (m : ℕ) → (m ≡ 0 → ⊥) → 1 ≤ m
-                  one zero d = absurd (d refl)
-                  one (suc m) d = omega arith
 
           outside : Packs ws (getD ps q 0 + 1) (widthOf ws ps q) (colourAt ws bs (widthOf ws ps q) next) Packed-outside → (eqb n 0 ≡ true) ⊎ (eqb n 0 ≡ false) → Says ws ps (flowAt ws ps bs at) (movedBy q n Packed-outside)
           outside y (inl t) = rw t (idle (y .1) (eqb-true n 0 t))

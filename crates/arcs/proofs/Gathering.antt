@@ -16,11 +16,12 @@ use Rattle.semantics.specs.Expression.{given}
 use Rattle.semantics.specs.Enabling.{Flow}
 use Rattle.semantics.proofs.Tests.{or-right}
 use Rattle.semantics.proofs.Members.{every-snoc}
+use Rattle.net.proofs.Loops.{take-set}
 use Rattle.arcs.specs.declared.flow.Moved.{Moved}
 use Rattle.arcs.specs.declared.flow.Moved.the-variants.{Tokens, Idle, Outside, Nothing}
 use Rattle.arcs.specs.Flow.{flowAt, flowsAt}
 use Rattle.arcs.specs.Keys.{keyFlow, keyFlows, KeyFits, fitsAt, Says, IsMoved, moving, gatheredBy, IsGathered}
-use Rattle.arcs.proofs.Colours.{front, front-nil, front-front, take-set}
+use Rattle.arcs.proofs.Colours.{front, front-nil, front-front}
 
 -- ── One arc more ──
 

@@ -1,6 +1,6 @@
 -- The rules of a conjunct and of the loop over a guard. A conjunct: one rule for each arm of the code. The loop: the conjuncts ahead hold
 -- just where all did at first.
-use mathlib.Core.Path.{_≡_, refl, sym, ap, _∙_}
+use mathlib.Core.Path.{_≡_, refl}
 use Prim.Native.Nat.{ℕ, _+_, _≤_, _<_}
 use mathlib.Core.Bool.{Bool, true, false, _&&_}
 use mathlib.Core.List.{List}
@@ -19,6 +19,7 @@ use Rattle.expression.specs.Evaluate.{lent}
 use Rattle.kinds.specs.declared.take.Taken.{Taken}
 use Rattle.kinds.specs.declared.take.Taken.the-variants.{Word, Refused}
 use Rattle.kinds.specs.Taken.{fitsKind, taken, IsTaken}
+use Rattle.net.proofs.Structures.{word-told}
 use Rattle.arcs.specs.Flow.{conjunctHolds, guardAt}
 use Rattle.arcs.proofs.Evaluating.{Valued, Unread}
 
@@ -27,7 +28,7 @@ use Rattle.arcs.proofs.Evaluating.{Valued, Unread}
 module _ (ws bs : List ℕ) (at : ℕ) {t : Taken} (w : IsTaken ws at 6 t) where
   conjunct-word : {u : Taken} → t ≡ u → word ws 6 (λ k. only 2 k) at ≡ taken at u
   unfolding fitsKind
-  conjunct-word e = sym (w .same) ∙ ap (taken at) e
+  conjunct-word e = word-told w e
 
   pub conjunct-refused : {m s : ℕ} → t ≡ Refused m s → false ≡ conjunctHolds (lent bs) (readConjunct ws (length bs) at)
   unfolding readConjunct

@@ -2,7 +2,7 @@
 -- range, and as long as all are in range the code is theirs.
 use mathlib.Core.Path.{_≡_, refl, sym, ap, _∙_, subst}
 use Prim.Native.Nat.{ℕ, zero, suc, _+_, _-_, _*_, _%_, _≤_, _<_, _^_}
-use mathlib.Core.Bool.{Bool, true, false, not, _&&_, and-assoc}
+use mathlib.Core.Bool.{Bool, true, false, not, _&&_, and-true, and-assoc}
 use mathlib.Core.List.{List, [], _∷_, _++_, append-nil}
 use mathlib.Core.Option.{Option, none, some}
 use native.Mathlib.Nat.{pow-suc}
@@ -10,16 +10,14 @@ use native.Mathlib.Numerals.{add-one}
 use native.Mathlib.Omega.{arith}
 use borrow.Author.Tests.{not-true, not-false}
 use lib.IntN.{ℤ}
-use lib.Signed.{mag}
 use lib.ListN.{length, getD, length-append}
-use Rattle.semantics.specs.Word.{bits, signed, within, valueWord}
+use Rattle.semantics.specs.Word.{signed, within, valueWord}
 use Rattle.semantics.specs.Expression.{valuesOf}
 use Rattle.semantics.specs.Reading.{several}
 use Rattle.semantics.specs.Order.{inRanges}
 use Rattle.semantics.proofs.Tests.{false-true, and-left}
-use Rattle.semantics.proofs.Words.{within-mag}
-use Rattle.semantics.proofs.Accepted.{signed-small}
 use Rattle.word.specs.Fields.{rangeWord}
+use Rattle.word.proofs.Words.{range-small}
 use Rattle.net.specs.Places.{rangesFrom}
 use Rattle.colours.specs.Code.{ofDigit, coloured, IsCode}
 use Rattle.colours.proofs.Codes.{code-start, code-behind, code-room, code-below, value-back}
@@ -32,10 +30,6 @@ use Rattle.arcs.proofs.Evaluating.{Valued, Unread}
 use Rattle.arcs.proofs.Colours.{front, front-nil, front-front, colour-value, colour-none, colour-unread}
 
 -- ── One component ──
-
--- a value in the range of a RANGE word has 14 bits
-range-small : (range : ℕ) (z : ℤ) → within (rangeWord range) z ≡ true → mag z < 8192
-range-small range z e = within-mag (rangeWord range) z (signed-small (bits 14 27 range) (omega arith)) (signed-small (bits 0 13 range) (omega arith)) e
 
 module _ {c : Coded} (range : ℕ) (z : ℤ) where
   pub put-kept : not (c .inside) ≡ true → IsPut c range z c
@@ -57,11 +51,7 @@ module _ {c : Coded} (range : ℕ) (z : ℤ) where
 
 ranges-behind : (ws : List ℕ) (n at : ℕ) (vs : List ℤ) (z : ℤ) → length vs ≡ n → inRanges (rangesFrom ws (suc n) at) (vs ++ (z ∷ [])) ≡ (inRanges (rangesFrom ws n at) vs && within (rangeWord (getD ws (at + n) 0)) z)
 unfolding inRanges rangesFrom
-ranges-behind ws zero at [] z l = let e : at + 0 ≡ at = omega arith in rw e (last (within (rangeWord (getD ws at 0)) z))
-  where
-    last : (t : Bool) → (t && true) ≡ t
-    last true = refl
-    last false = refl
+ranges-behind ws zero at [] z l = let e : at + 0 ≡ at = omega arith in rw e (and-true (within (rangeWord (getD ws at 0)) z))
 ranges-behind ws zero at (v ∷ vs) z l = absurd (omega arith)
 ranges-behind ws (suc n) at [] z l = absurd (omega arith)
 ranges-behind ws (suc n) at (v ∷ vs) z l =

@@ -7,21 +7,20 @@ use native.Mathlib.Omega.{arith}
 use borrow.Author.Tests.{ltb-true}
 use lib.Dec.{ltb}
 use lib.ListN.{length, getD, replicate}
-use Rattle.semantics.specs.Reading.{read, refused, several, word}
+use Rattle.semantics.specs.Reading.{read, several, word}
 use Rattle.semantics.specs.Net.{Place, Arc, rangesAt}
 use Rattle.semantics.specs.ReadNet.{readExpression, readArc}
-use Rattle.semantics.proofs.Spans.{then-read, demand-read}
+use Rattle.semantics.proofs.Spans.{refused-read, demand-read, then-read, several-length}
 use Rattle.expression.specs.declared.read.Skipped.{Skipped}
 use Rattle.expression.specs.declared.read.Skipped.the-variants.{Next, Refused}
 use Rattle.expression.specs.Skip.{forget, skipped}
-use Rattle.expression.proofs.Laws.{skip-reads, skip-refuses}
+use Rattle.expression.proofs.Laws.{passed-read, passed-refused}
 use Rattle.kinds.specs.declared.take.Taken.{Taken}
 use Rattle.kinds.specs.declared.take.Taken.the-variants.{Word, Refused as TakeRefused}
 use Rattle.kinds.specs.Taken.{fitsKind, IsTaken}
 use Rattle.net.specs.Places.{widthAt, placesAt, PlacesFit}
 use Rattle.net.proofs.Structures.{stricter, word-refused, word-taken}
 use Rattle.net.proofs.Placed.{places-length, width-at, fits-at}
-use Rattle.net.proofs.Skimming.{several-length}
 use Rattle.counts.proofs.Found.{rows-inside}
 use Rattle.plans.specs.declared.element.Element.{Element}
 use Rattle.arrivals.specs.declared.step.Step.{Step}
@@ -47,9 +46,6 @@ arc-read ws places v at a next h =
     let f : _≡_ {A = Arc} (record { position = at; place = q; coefficient = c; components = es }) a = cc in
     let n : end ≡ next = cc in
     subst (λ (b : Arc). ArcRead ws places v at b next) f (record { mid = mid; first = first; head = p; coefficient = r; components = rw (← n) s })
-
-pub read-refused : {A X : Type 0} {m q next : ℕ} {a : A} → refused m q ≡ read a next → X
-read-refused e = let z : _≡_ {A = ℕ} 0 1 = cc in absurd (omega arith)
 
 -- its ARC word, by itself
 pub arc-head : (ws ps : List ℕ) (v at : ℕ) (a : Arc) (next : ℕ) (s : ArcRead ws (placesAt ws ps) v at a next) → (word ws 5 (fitsKind 5) at ≡ read (a .place) (s .mid)) × (a .place < length ps)
@@ -95,7 +91,7 @@ module _ (ws ps : List ℕ) (v : ℕ) (ms begins : List ℕ) (e : Element) (at :
     pub match-refused : {m q : ℕ} → t ≡ TakeRefused m q → IsMatch ws ps v ms begins e at r
     match-refused {m} {q} d = none-aimed λ a next h x y.
         let s = arc-read ws (placesAt ws ps) v at a next h in
-        read-refused (sym (word-refused w d) ∙ arc-head ws ps v at a next s .0)
+        refused-read m q (a .place) (s .mid) (sym (word-refused w d) ∙ arc-head ws ps v at a next s .0)
 
     module _ {q : ℕ} (d : t ≡ Word q) where
       pub match-nowhere : length ps ≤ q → IsMatch ws ps v ms begins e at r
@@ -118,10 +114,10 @@ module _ (ws ps : List ℕ) (v : ℕ) (ms begins : List ℕ) (e : Element) (at :
           omega arith
 
       pub match-unread : (k : Skipped) → skipped k ≡ forget (readExpression ws v (at + 1)) → {m p : ℕ} → k ≡ Refused m p → IsMatch ws ps v ms begins e at r
-      match-unread k f g = none-aimed λ a next h x y.
+      match-unread k f {m} {p} g = none-aimed λ a next h x y.
           let s = arc-read ws (placesAt ws ps) v at a next h in
           let b = taken-place a next s d .1 in
-          read-refused (sym (skip-refuses ws v (at + 1) k f g) ∙ ap (readExpression ws v) b ∙ s .coefficient)
+          refused-read m p (a .coefficient) (s .first) (sym (passed-refused (readExpression ws v (at + 1)) k f g) ∙ ap (readExpression ws v) b ∙ s .coefficient)
 
   -- ── The entries of its place ──
 
@@ -133,7 +129,7 @@ module _ (ws ps : List ℕ) (v : ℕ) (ms begins : List ℕ) (e : Element) (at :
       aimed = λ a next h x y.
           let s = arc-read ws (placesAt ws ps) v at a next h in
           let p = taken-place a next s d in
-          let u = skip-reads ws v (at + 1) k f g in
+          let u = passed-read (readExpression ws v (at + 1)) k f g in
           let c : read (u .0) first ≡ read (a .coefficient) (s .first) = sym (u .1) ∙ ap (readExpression ws v) (p .1) ∙ s .coefficient in
           let o : s .first ≡ first = cc in
           let z : length (rangesAt (placesAt ws ps) (a .place)) ≡ width = ap (λ (n : ℕ). length (rangesAt (placesAt ws ps) n)) (sym (p .0)) ∙ width-at ws ps q l ∙ sym i in

@@ -1,13 +1,14 @@
 -- The rules of the i-th try: by the sort of the element, it is the i-th member of the tries.
 use mathlib.Core.Path.{_≡_, refl, sym, ap, _∙_, subst}
 use mathlib.Core.Bool.{Bool, true}
-use mathlib.Core.List.{List, [], _∷_, map}
+use mathlib.Core.List.{List, []}
 use mathlib.Core.Option.{Option, none, some}
 use Prim.Native.Nat.{ℕ, zero, suc, _+_, _*_, _≤_, _<_}
 use native.Mathlib.Omega.{arith}
 use native.Mathlib.Nat.{zero-add}
-use lib.ListN.{length, getD, set, take, replicate}
+use lib.ListN.{length, getD, set, take, getD-replicate}
 use Rattle.semantics.specs.Tries.{Partial}
+use Rattle.semantics.proofs.Members.{map-number}
 use Rattle.net.specs.Places.{rangesFrom}
 use Rattle.plans.specs.declared.element.Sort.{Sort}
 use Rattle.plans.specs.declared.element.Sort.the-variants.{Match, Solve, Range as InRange}
@@ -21,16 +22,6 @@ use Rattle.solving.specs.Solve.{solvedAt, HasConjunct}
 use Rattle.tries.specs.Range.{valueAt, upFrom}
 use Rattle.arrivals.specs.Step.{Inside, SafeBy, Safe, ReadyBy, Ready, triesOf, triesBy}
 use Rattle.tries.proofs.Knowing.{differs-fails}
-
-pub map-getD : {A B : Type 0} (f : A → B) (l : List A) (i : ℕ) (d : A) (e : B) → i < length l → getD (map f l) i e ≡ f (getD l i d)
-map-getD f [] i d e h = absurd (omega arith)
-map-getD f (x ∷ l) zero d e h = refl
-map-getD f (x ∷ l) (suc i) d e h = map-getD f l i d e (omega arith)
-
-replicate-at : {A : Type 0} (n : ℕ) (x d : A) (i : ℕ) → i < n → getD (replicate n x) i d ≡ x
-replicate-at zero x d i h = absurd (omega arith)
-replicate-at (suc n) x d zero h = refl
-replicate-at (suc n) x d (suc i) h = replicate-at n x d i (omega arith)
 
 pub up-length : (a n : ℕ) → length (upFrom a n) ≡ n
 unfolding upFrom
@@ -50,16 +41,16 @@ module _ (ws : List ℕ) (ranges v : ℕ) (ms : List ℕ) (s : Step) (p : Partia
   pub try-match : {o : Option Partial} {k : ℕ} → s .element .sort ≡ Match k → o ≡ matchedBy (rangesFrom ws v ranges) (take (s .width) (s .parts)) (valuesAt ms (s .width) (s .from + i * (s .width + 1) + 1)) p → o ≡ getD (triesBy ws ranges v ms s p) i none
   try-match e f =
       by-sort e
-      (f ∙ sym (map-getD (λ c. matchedBy (rangesFrom ws v ranges) (take (s .width) (s .parts)) c p) (coloursAt ms (s .width) (s .count) (s .from)) i [] none (rw (colours-length ms (s .width) (s .count) (s .from)) h)
+      (f ∙ sym (map-number (λ c. matchedBy (rangesFrom ws v ranges) (take (s .width) (s .parts)) c p) (coloursAt ms (s .width) (s .count) (s .from)) i [] none (rw (colours-length ms (s .width) (s .count) (s .from)) h)
       ∙ rw (colours-at ms (s .width) (s .count) (s .from) i h)))
 
   pub try-solve : {o : Option Partial} {k : ℕ} → s .element .sort ≡ Solve k → o ≡ solvedAt ws (rangesFrom ws v ranges) v p (s .from) → o ≡ getD (triesBy ws ranges v ms s p) i none
-  try-solve e f = by-sort e (f ∙ sym (replicate-at (s .count) (solvedAt ws (rangesFrom ws v ranges) v p (s .from)) none i h))
+  try-solve e f = by-sort e (f ∙ sym (getD-replicate (s .count) i (solvedAt ws (rangesFrom ws v ranges) v p (s .from)) none h))
 
   pub try-range : {o : Option Partial} {k : ℕ} → s .element .sort ≡ InRange k → o ≡ some (set p k (some (valueAt (getD ws (ranges + k) 0) i))) → o ≡ getD (triesBy ws ranges v ms s p) i none
   try-range {k = k} e f =
       by-sort e
-      (f ∙ sym (map-getD up (upFrom 0 (s .count)) i 0 none (rw (up-length 0 (s .count)) h) ∙ ap up (up-at 0 (s .count) i h ∙ zero-add i)))
+      (f ∙ sym (map-number up (upFrom 0 (s .count)) i 0 none (rw (up-length 0 (s .count)) h) ∙ ap up (up-at 0 (s .count) i h ∙ zero-add i)))
     where
       up : ℕ → Option Partial
       up j = some (set p k (some (valueAt (getD ws (ranges + k) 0) j)))

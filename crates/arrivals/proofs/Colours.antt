@@ -9,18 +9,16 @@ use borrow.Author.Tests.{leb-true, le-leb, eqb-true, eq-eqb}
 use lib.Dec.{leb}
 use lib.IntN.{ℤ}
 use lib.ListN.{length, getD}
-use Rattle.semantics.specs.Refusal.{badMarking}
 use Rattle.semantics.specs.Reading.{read}
 use Rattle.semantics.specs.Net.{Net, rangesAt}
 use Rattle.semantics.specs.Order.{tuples}
-use Rattle.semantics.specs.Marking.{Entry, readEntries, countsOf}
+use Rattle.semantics.specs.Marking.{Entry, countsOf}
 use Rattle.semantics.specs.Tries.{coloursOn}
 use Rattle.semantics.proofs.Tests.{selected, select-in, Every-at}
 use Rattle.semantics.proofs.Order.{rising-select, rising-unique}
 use Rattle.semantics.proofs.Tuples.{in-tuples, tuples-rise}
-use Rattle.semantics.proofs.Spans.{numbered-read}
 use Rattle.semantics.proofs.Entries.{Good, counts-some, counts-member}
-use Rattle.semantics.proofs.ReadEntries.{Accepted, entries-read}
+use Rattle.semantics.proofs.ReadEntries.{Accepted, whole-read}
 use Rattle.counts.specs.Counts.{coloursAt}
 use Rattle.marking.specs.Marked.{beginOf, markingRead, Begins}
 use Rattle.counts.proofs.Blocks.{on, block}
@@ -29,7 +27,7 @@ use Rattle.counts.proofs.Found.{colours, block-colours, Seen, seen}
 module _ (net : Net) (ms : List ℕ) (es : List Entry) (next : ℕ) (r : markingRead (net .places) ms ≡ read es next) where
   accepted : Accepted (net .places) ms [] 0 es next
   unfolding markingRead
-  accepted = entries-read (length ms) (net .places) ms [] 0 es next (omega arith) (numbered-read badMarking (readEntries (length ms) (net .places) ms [] 0) es next r)
+  accepted = whole-read (net .places) ms es next r
 
   -- ── The members ──
 

@@ -5,14 +5,14 @@ use Prim.Native.Nat.{ℕ, suc, _+_, _-_, _≤_, _<_}
 use native.Mathlib.Omega.{arith}
 use lib.ListN.{length, getD, set, take, length-set}
 use Rattle.semantics.specs.Expression.{Expression, constant, variable, binary, load}
-use Rattle.semantics.specs.Reading.{read, refused, Reader, several}
+use Rattle.semantics.specs.Reading.{read, several}
 use Rattle.semantics.specs.ReadNet.{readExpression}
-use Rattle.semantics.proofs.Spans.{then-read}
+use Rattle.semantics.proofs.Spans.{refused-read, several-split}
 use Rattle.expression.specs.declared.read.Skipped.{Skipped}
 use Rattle.expression.specs.declared.read.Skipped.the-variants.{Next, Refused}
 use Rattle.expression.specs.Skip.{forget, skipped, Ahead, Skips}
 use Rattle.expression.proofs.Spelled.{HeadWord, headOfTree, spelled}
-use Rattle.expression.proofs.Laws.{skip-reads, skip-refuses}
+use Rattle.expression.proofs.Laws.{passed-read, passed-refused}
 use Rattle.net.proofs.Loops.{take-set}
 use Rattle.arrivals.specs.Step.{Begin, IsParts}
 
@@ -22,24 +22,6 @@ head-here ws v at (constant z) next h = spelled ws v at h .1
 head-here ws v at (variable n) next h = spelled ws v at h .1
 head-here ws v at (binary o a b) next h = spelled ws v at h .1
 head-here ws v at (load a) next h = spelled ws v at h .1
-
--- one of several, and the others
-pub record Split {A : Type 0} (R : Reader A) (n at : ℕ) (xs : List A) (end : ℕ) : Type 0 where
-  pub first : A
-  pub mid : ℕ
-  pub others : List A
-  pub reads : R at ≡ read first mid
-  pub rest : several n R mid ≡ read others end
-  pub whole : xs ≡ first ∷ others
-
-pub several-split : {A : Type 0} (R : Reader A) (n at : ℕ) (xs : List A) (end : ℕ) → several (suc n) R at ≡ read xs end → Split R n at xs end
-unfolding several
-several-split R n at xs end h =
-    then-read (R at) _ xs end h λ a mid p q.
-    then-read (several n R mid) _ xs end q λ bs last r s.
-    let e : last ≡ end = cc in
-    let f : xs ≡ a ∷ bs = cc in
-    record { first = a; mid = mid; others = bs; reads = p; rest = rw (← e) r; whole = f }
 
 -- the words of i expressions are written, and the rest is ahead
 pub record Parting (ws : List ℕ) (v at n i next : ℕ) (parts : List ℕ) : Type 0 where
@@ -75,9 +57,7 @@ module _ {ws : List ℕ} {v at n i next : ℕ} {parts : List ℕ} (a : Parting w
         by es end f =
             let z : n - i ≡ suc (n - (i + 1)) = omega arith in
             let t = several-split (readExpression ws v) (n - (i + 1)) next (f .0) end (rw z at (f .1)) in
-            let u : refused m q ≡ read (t .first) (t .mid) = sym (skip-refuses ws v next s h d) ∙ t .reads in
-            let o : _≡_ {A = ℕ} 0 1 = cc in
-            absurd (omega arith)
+            refused-read m q (t .first) (t .mid) (sym (passed-refused (readExpression ws v next) s h d) ∙ t .reads)
 
     pub parting-turn : {p : ℕ} → s ≡ Next p → n ≤ 4 → Parting ws v at n (i + 1) p (set parts i (getD ws next 0))
     parting-turn {p} d l =
@@ -89,7 +69,7 @@ module _ {ws : List ℕ} {v at n i next : ℕ} {parts : List ℕ} (a : Parting w
             let full = a .full in
             let z : n - i ≡ suc (n - (i + 1)) = omega arith in
             let t = several-split (readExpression ws v) (n - (i + 1)) next (f .0) end (rw z at (f .1)) in
-            let u = skip-reads ws v next s h d in
+            let u = passed-read (readExpression ws v next) s h d in
             let g : read (t .first) (t .mid) ≡ read (u .0) p = sym (t .reads) ∙ u .1 in
             let m : t .mid ≡ p = cc in
             let w = head-here ws v next (t .first) (t .mid) (t .reads) in (

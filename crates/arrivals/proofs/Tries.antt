@@ -4,9 +4,9 @@
 use mathlib.Core.Path.{_≡_, sym, ap, _∙_, subst, fun-ext}
 use mathlib.Core.Logic.{_⊎_, inl, inr}
 use mathlib.Core.Bool.{true, false}
-use mathlib.Core.List.{List, [], _∷_, map, map-map}
+use mathlib.Core.List.{List, _∷_, map, map-map}
 use mathlib.Core.Option.{Option, some, bind}
-use Prim.Native.Nat.{ℕ, zero, suc, _+_, _≤_, _<_}
+use Prim.Native.Nat.{ℕ, _+_, _≤_, _<_}
 use native.Mathlib.Omega.{arith}
 use borrow.Author.Tests.{ltb-true, ltb-false}
 use lib.Dec.{ltb}
@@ -21,7 +21,7 @@ use Rattle.semantics.specs.Plan.{newlyBound}
 use Rattle.semantics.specs.Tries.{Partial, isBoundIn, coloursOn, matched, tries}
 use Rattle.semantics.specs.Calls.{Situation}
 use Rattle.semantics.proofs.Tests.{either, Every-at}
-use Rattle.semantics.proofs.Members.{none-some, at-length, length-at, at-member}
+use Rattle.semantics.proofs.Members.{at-length, length-at, at-member, map-elem}
 use Rattle.semantics.proofs.Accepted.{Valued, SoundArc, SoundTransition, transition-sound}
 use Rattle.semantics.proofs.Fitness.{FitMatch, fit-match, FitSolve, fit-solve, FitRange, fit-range}
 use Rattle.word.specs.Fields.{rangeWord}
@@ -60,17 +60,11 @@ tries-length ws ranges v ms r p = by (r .element .sort)
 
 -- ── Positions ──
 
--- the position of a member by its number
-position-at : {A : Type 0} (f : A → ℕ) (l : List A) (k : ℕ) (a : A) → getElem? l k ≡ some a → getD (map f l) k 0 ≡ f a
-position-at f [] k a e = none-some e
-position-at f (x ∷ l) zero a e = let q : x ≡ a = cc in ap f q
-position-at f (x ∷ l) (suc k) a e = position-at f l k a e
-
 module _ {ws ps : List ℕ} {position v : ℕ} {inputs conjuncts elements ms begins : List ℕ} {s : Situation} (w : World ws ps position v inputs conjuncts elements ms begins s) where
   parts : Parts ws (s .net .places) (s .transition)
   parts = transition-parts ws (s .net .places) position (s .transition) (w .after) (w .there)
 
-  sound : SoundTransition (s .net .places) (s .transition)
+  pub sound : SoundTransition (s .net .places) (s .transition)
   sound = transition-sound ws (s .net .places) position (s .transition) (w .after) (w .there)
 
   ranges-here : rangesFrom ws v (position + 1) ≡ s .transition .variables
@@ -84,7 +78,7 @@ module _ {ws ps : List ℕ} {position v : ℕ} {inputs conjuncts elements ms beg
     arc-here : (next : ℕ) × (readArc ws (placesAt ws ps) v (getD inputs k 0) ≡ read a next)
     arc-here =
         let h = Every-at (At (readArc ws (s .net .places) (length (s .transition .variables))) (λ (a : Arc). a .position)) (parts .inputs) (at-member (s .transition .inputs) k a e) in
-        let i : getD inputs k 0 ≡ a .position = ap (λ (l : List ℕ). getD l k 0) (w .arcs) ∙ position-at (λ (a : Arc). a .position) (s .transition .inputs) k a e in (
+        let i : getD inputs k 0 ≡ a .position = ap (λ (l : List ℕ). getD l k 0) (w .arcs) ∙ map-elem (λ (a : Arc). a .position) (s .transition .inputs) k a 0 e in (
           h .next,
           ap (readArc ws (placesAt ws ps) v) i
               ∙ ap (λ (places : List Place). readArc ws places v (a .position)) (sym (w .placed))
@@ -110,7 +104,7 @@ module _ {ws ps : List ℕ} {position v : ℕ} {inputs conjuncts elements ms beg
     conjunct-here : (next : ℕ) × (readConjunct ws v (getD conjuncts k 0) ≡ read c next)
     conjunct-here =
         let h = Every-at (At (readConjunct ws (length (s .transition .variables))) (λ (c : Conjunct). c .position)) (parts .guard) (at-member (s .transition .guard) k c e) in
-        let i : getD conjuncts k 0 ≡ c .position = ap (λ (l : List ℕ). getD l k 0) (w .guards) ∙ position-at (λ (c : Conjunct). c .position) (s .transition .guard) k c e in
+        let i : getD conjuncts k 0 ≡ c .position = ap (λ (l : List ℕ). getD l k 0) (w .guards) ∙ map-elem (λ (c : Conjunct). c .position) (s .transition .guard) k c 0 e in
         (h .next, ap (readConjunct ws v) i ∙ ap (λ (n : ℕ). readConjunct ws n (c .position)) (w .many) ∙ h .reads)
 
   -- ── An arrival ──

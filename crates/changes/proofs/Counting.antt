@@ -2,7 +2,7 @@
 -- first.
 use mathlib.Core.Path.{_≡_, refl, sym, ap, _∙_, subst}
 use mathlib.Core.Bool.{Bool, true, false, cond, not}
-use mathlib.Core.List.{List, [], _∷_, _++_, List·Memᴰ, List·Memᴰ·head}
+use mathlib.Core.List.{List, _∷_, _++_, List·Memᴰ, List·Memᴰ·head}
 use Prim.Native.Nat.{ℕ, zero, suc, _+_, _-_, _*_, _≤_, _<_}
 use borrow.Author.Tests.{ne-eqb, le-leb, lt-leb, not-true, not-false}
 use native.Mathlib.Omega.{arith}
@@ -14,6 +14,7 @@ use Rattle.semantics.specs.Lists.{Every, every}
 use Rattle.semantics.specs.Word.{valueWord}
 use Rattle.semantics.specs.Marking.{Entry, key, countsOf, entryWords}
 use Rattle.semantics.proofs.Tests.{not-both, Every-at, Every-of, selected}
+use Rattle.semantics.proofs.Members.{every-both}
 use Rattle.net.specs.Places.{placesAt}
 use Rattle.counts.specs.declared.find.Spot.{Spot}
 use Rattle.counts.specs.Counts.{IsSpot}
@@ -97,11 +98,7 @@ module _ {ws ps ik ia ok oa begins : List ℕ} (m : Moves ws ps ik ia ok oa begi
   outs-low = every-low ok (m .outs .fit)
 
   pub all-fit : Every (KeyFits ws ps) (ik ++ ok)
-  all-fit = append ik (m .ins .fit)
-    where
-      append : (ks : List ℕ) → Every (KeyFits ws ps) ks → Every (KeyFits ws ps) (ks ++ ok)
-      append [] e = m .outs .fit
-      append (k ∷ ks) e = (e .0, append ks (e .1))
+  all-fit = every-both (KeyFits ws ps) ik ok (m .ins .fit) (m .outs .fit)
 
   pub all-low : Low (ik ++ ok)
   all-low = every-low (ik ++ ok) all-fit
@@ -154,7 +151,7 @@ module _ {ws ps ik ia ok oa ms begins : List ℕ} (m : Moves ws ps ik ia ok oa b
     pub measuring-end : noKey ≤ k → {n : ℕ} → IsMeasured ws ps ik ia ok oa ms begins (record { over = false; n = n; old = old; new = new })
     unfolding every oldLength newLength
     measuring-end h =
-        let e = keys-none k (ik ++ ok) (a .first) (all-low m) h in
+        let e = keys-none k (ik ++ ok) (all-low m) h in
         let n = a .new-short in
         record {
           over = λ es v. ap not (rw e at (a .limit es v));
@@ -163,14 +160,15 @@ module _ {ws ps ik ia ok oa ms begins : List ℕ} (m : Moves ws ps ik ia ok oa b
           new-short = omega arith;
         }
 
-    module _ (h : k < noKey) {c : Changed} (x : IsChange ws ps ik ia ok oa ms begins k c) where
-      keys-are : keysFrom k (ik ++ ok) ≡ k ∷ keysFrom (k + 1) (ik ++ ok)
-      keys-are = keys-next k (ik ++ ok) (a .first) h
+    -- the key is the next, and the others come after it
+    pub keys-are : k < noKey → keysFrom k (ik ++ ok) ≡ k ∷ keysFrom (k + 1) (ik ++ ok)
+    keys-are h = keys-next k (ik ++ ok) (a .first) h
 
+    module _ (h : k < noKey) {c : Changed} (x : IsChange ws ps ik ia ok oa ms begins k c) where
       pub measuring-over : c .over ≡ true → IsMeasured ws ps ik ia ok oa ms begins (record { over = true; n = 0; old = 0; new = 0 })
       unfolding every
       measuring-over t = record {
-        over = λ es v. let w = not-true (within ws ps (after ws ps ik ia ok oa es) k) (sym (x .over es v) ∙ t) in ap not (rw (keys-are, w) at (a .limit es v));
+        over = λ es v. let w = not-true (within ws ps (after ws ps ik ia ok oa es) k) (sym (x .over es v) ∙ t) in ap not (rw (keys-are h, w) at (a .limit es v));
         old = λ es v p. absurd (not-both true refl p);
         new = λ es v p. absurd (not-both true refl p);
         new-short = omega arith;
@@ -179,7 +177,7 @@ module _ {ws ps ik ia ok oa ms begins : List ℕ} (m : Moves ws ps ik ia ok oa b
       -- the words that the next change adds
       pub measuring-room : (old + c .old ≤ 80) × (new + c .new ≤ 80)
       measuring-room =
-          let l : length (keysFrom k (ik ++ ok)) ≡ suc (length (keysFrom (k + 1) (ik ++ ok))) = ap length keys-are in
+          let l : length (keysFrom k (ik ++ ok)) ≡ suc (length (keysFrom (k + 1) (ik ++ ok))) = ap length (keys-are h) in
           let a₁ = a .old-short in
           let a₂ = a .new-short in
           let b₁ = x .old-short in
@@ -188,22 +186,22 @@ module _ {ws ps ik ia ok oa ms begins : List ℕ} (m : Moves ws ps ik ia ok oa b
 
       -- fewer keys are ahead
       pub measuring-less : {k′ : ℕ} → k′ ≡ firstOf (keysFrom (k + 1) (ik ++ ok)) → length (keysFrom k′ (ik ++ ok)) < length (keysFrom k (ik ++ ok))
-      measuring-less e = let s = ap length (next-same m (k + 1) e) in let l = ap length keys-are in omega arith
+      measuring-less e = let s = ap length (next-same m (k + 1) e) in let l = ap length (keys-are h) in omega arith
 
       pub measuring-turn : c .over ≡ false → {k′ : ℕ} → k′ ≡ firstOf (keysFrom (k + 1) (ik ++ ok)) → Measuring ws ps ik ia ok oa ms begins k′ (old + c .old) (new + c .new)
       unfolding every oldLength newLength
       measuring-turn t {k′} e =
           let s = next-same m (k + 1) e in
-          let l : length (keysFrom k (ik ++ ok)) ≡ suc (length (keysFrom (k + 1) (ik ++ ok))) = ap length keys-are in
+          let l : length (keysFrom k (ik ++ ok)) ≡ suc (length (keysFrom (k + 1) (ik ++ ok))) = ap length (keys-are h) in
           let a₁ = a .old-short in
           let a₂ = a .new-short in
           let b₁ = x .old-short in
           let b₂ = x .new-short in
           record {
             first = next-first m (k + 1) e;
-            limit = λ es v. let w = not-false (within ws ps (after ws ps ik ia ok oa es) k) (sym (x .over es v) ∙ t) in rw s (rw (keys-are, w) at (a .limit es v));
-            old-same = λ es v. let d = ap (λ (c : Change). c .old) (x .told es v t) in let o = rw keys-are at (a .old-same es v) in rw s (omega arith);
-            new-same = λ es v. let d = x .new ∙ ap (λ (c : Change). length (entryWords (c .place) (c .colour) (c .count))) (x .told es v t) in let o = rw keys-are at (a .new-same es v) in rw s (omega arith);
+            limit = λ es v. let w = not-false (within ws ps (after ws ps ik ia ok oa es) k) (sym (x .over es v) ∙ t) in rw s (rw (keys-are h, w) at (a .limit es v));
+            old-same = λ es v. let d = ap (λ (c : Change). c .old) (x .told es v t) in let o = rw (keys-are h) at (a .old-same es v) in rw s (omega arith);
+            new-same = λ es v. let d = x .new ∙ ap (λ (c : Change). length (entryWords (c .place) (c .colour) (c .count))) (x .told es v t) in let o = rw (keys-are h) at (a .new-same es v) in rw s (omega arith);
             old-short = rw s (omega arith);
             new-short = rw s (omega arith);
           }

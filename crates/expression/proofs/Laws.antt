@@ -1,5 +1,6 @@
 -- What holds of an expression that is read at a position, for whoever passes over it or evaluates it there: how far it reaches, what its first
--- word says of it, which of its words are its variables, and what evaluating it answers. Rests on Spelled.
+-- word says of it, which of its words are its variables, and what evaluating it answers. What the end of a reading that was passed over says of it.
+-- Rests on Spelled.
 use mathlib.Core.Path.{_≡_, refl, sym, ap, _∙_}
 use mathlib.Core.Bool.{Bool, cond, not, _&&_, _||_, and-true, and-assoc}
 use mathlib.Core.List.{List, [], _∷_, _++_, map}
@@ -19,6 +20,7 @@ use Rattle.semantics.specs.Word.{kind, payload, signed, modulo, valueWord}
 use Rattle.semantics.specs.Expression.{Expression, constant, variable, binary, load, houseTable, value, bound, everyVariable}
 use Rattle.semantics.specs.Reading.{Reading, read, refused}
 use Rattle.semantics.specs.ReadNet.{readExpression}
+use Rattle.semantics.proofs.Spans.{refused-read}
 use Rattle.semantics.proofs.Words.{modulo-below, value-kind, value-payload, signed-modulo}
 use Rattle.expression.specs.declared.read.Skipped.{Skipped}
 use Rattle.expression.specs.declared.read.Skipped.the-variants.{Next, Refused}
@@ -139,22 +141,16 @@ module _ (ws : List ℕ) (variables at : ℕ) {e : Expression} {next : ℕ} (x :
     pub read-no-value : {p : ℕ} → r ≡ NoValue p → (value houseTable (lent bs) e ≡ none) × (p ≡ next)
     read-no-value {p} d = let v : valued none p ≡ valued (value houseTable (lent bs) e) next = rw d at read-evaluates in (cc, cc)
 
--- ── An expression passed over ──
+-- ── What is passed over ──
 
-module _ (ws : List ℕ) (variables at : ℕ) (r : Skipped) (h : skipped r ≡ forget (readExpression ws variables at)) where
-  pub skip-reads : {p : ℕ} → r ≡ Next p → (e : Expression) × (readExpression ws variables at ≡ read e p)
-  skip-reads {p} d = by (readExpression ws variables at) (rw d at h)
-    where
-      by : (x : Reading Expression) → read tt p ≡ forget x → (e : Expression) × (x ≡ read e p)
-      by (read e next) f = let i : p ≡ next = cc in (e, rw i)
-      by (refused n q) f = let z : _≡_ {A = ℕ} 0 1 = cc in absurd (omega arith)
+-- a reading that the code has passed over, told by its end
+pub passed-read : {A : Type 0} (x : Reading A) (s : Skipped) {n : ℕ} → skipped s ≡ forget x → s ≡ Next n → (a : A) × (x ≡ read a n)
+passed-read (read a k) s {n} e d = let b : read tt n ≡ read tt k = sym (ap skipped d) ∙ e in (a, cc)
+passed-read (refused m q) s {n} e d = refused-read m q tt n (sym e ∙ ap skipped d)
 
-  pub skip-refuses : {n p : ℕ} → r ≡ Refused n p → readExpression ws variables at ≡ refused n p
-  skip-refuses {n} {p} d = by (readExpression ws variables at) (rw d at h)
-    where
-      by : (x : Reading Expression) → refused n p ≡ forget x → x ≡ refused n p
-      by (read e next) f = let z : _≡_ {A = ℕ} 0 1 = cc in absurd (omega arith)
-      by (refused m q) f = cc
+pub passed-refused : {A : Type 0} (x : Reading A) (s : Skipped) {n p : ℕ} → skipped s ≡ forget x → s ≡ Refused n p → x ≡ refused n p
+passed-refused (read a k) s {n} {p} e d = refused-read n p tt k (sym (ap skipped d) ∙ e)
+passed-refused (refused m q) s {n} {p} e d = let b : refused n p ≡ refused m q = sym (ap skipped d) ∙ e in cc
 
 -- ── Bindings ──
 

@@ -2,7 +2,7 @@
 -- rows exactly where the menu fits.
 use mathlib.Core.Path.{_≡_, refl, sym, ap, _∙_, subst}
 use mathlib.Core.Logic.{_⊎_, inl, inr}
-use mathlib.Core.Bool.{Bool, true, false, cond, _&&_}
+use mathlib.Core.Bool.{Bool, true, false, cond, _&&_, and-true}
 use mathlib.Core.List.{List, [], _∷_, _++_, map, flatMap}
 use mathlib.Core.Option.{none}
 use Prim.Native.Nat.{ℕ, zero, suc, _+_, _*_, _/_, min, _≤_, _<_}
@@ -68,10 +68,6 @@ rows-fit room w n = by (either (eqb w 0))
   where
     none-wide : w ≡ 0 → (leb n mostBindings && leb (n * w) room) ≡ leb n mostBindings
     none-wide z = let e : leb (n * w) room ≡ true = le-leb (n * w) room (rw z (rw (mul-zero n) (omega arith))) in rw e (and-true (leb n mostBindings))
-      where
-        and-true : (u : Bool) → (u && true) ≡ u
-        and-true true = refl
-        and-true false = refl
 
     some-wide : 0 < w → (leb n (min (room / w) mostBindings) ≡ true) ⊎ (leb n (min (room / w) mostBindings) ≡ false) → (leb n mostBindings && leb (n * w) room) ≡ leb n (min (room / w) mostBindings)
     some-wide h (inl e) =

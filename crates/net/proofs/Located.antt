@@ -10,8 +10,9 @@ use Rattle.semantics.specs.Reading.{read, Reader, several, word}
 use Rattle.semantics.specs.Net.{Place, Arc, Conjunct, Element, Transition, Net}
 use Rattle.semantics.specs.ReadNet.{readRange, readPlace, readArc, readConjunct, readElement, readTransition, readNet}
 use Rattle.semantics.proofs.Readers.{Gives, gives, given, then-gives, as-read}
+use Rattle.semantics.proofs.Spans.{several-length}
 use Rattle.kinds.specs.Taken.{fitsKind}
-use Rattle.net.proofs.Skimming.{several-length, place-begins, arc-begins, conjunct-begins, element-begins, transition-begins}
+use Rattle.net.proofs.Skimming.{place-begins, arc-begins, conjunct-begins, element-begins, transition-begins}
 
 -- a structure stands at its position
 pub record At {A : Type 0} (r : Reader A) (position : A → ℕ) (x : A) : Type 0 where

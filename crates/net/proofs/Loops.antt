@@ -8,6 +8,7 @@ use native.Mathlib.Omega.{arith}
 use lib.ListN.{length, take, set}
 use lib.Seq.{take-suc-set}
 use Rattle.semantics.specs.Reading.{Reading, read, refused, then, Reader}
+use Rattle.semantics.proofs.Spans.{refused-read}
 use borrow.Author.Needs.{needs}
 use Rattle.expression.specs.declared.read.Skipped.{Skipped}
 use Rattle.expression.specs.declared.read.Skipped.the-variants.{Next, Refused}
@@ -31,6 +32,10 @@ module _ (R : Reader (Unit {0})) where
 pub forget-changed : {A B : Type 0} (f : A → B) (x : Reading A) → forget (changed f x) ≡ forget x
 forget-changed f (read a next) = refl
 forget-changed f (refused n p) = refl
+
+pub changed-refused : {A B : Type 0} (f : A → B) (x : Reading A) {n p : ℕ} → changed f x ≡ refused n p → x ≡ refused n p
+changed-refused f (read a next) {n} {p} e = refused-read n p (f a) next (sym e)
+changed-refused f (refused m q) {n} {p} e = let a : m ≡ n = cc in let b : q ≡ p = cc in ap (λ (k : ℕ). refused k q) a ∙ ap (refused n) b
 
 pub changed-changed : {A B C : Type 0} (f : A → B) (g : B → C) (x : Reading A) → changed g (changed f x) ≡ changed (λ a. g (f a)) x
 changed-changed f g (read a next) = refl
@@ -115,7 +120,7 @@ pub collected-start : (R : Reader (Unit {0})) (n at : ℕ) (begins : List ℕ) �
 collected-start R n at begins = record { gathered = gathered-start (λ k. starts k R) n at }
 
 -- one more is written
-pub take-set : (l : List ℕ) (i a : ℕ) → i < length l → take (i + 1) (set l i a) ≡ take i l ++ (a ∷ [])
+pub take-set : {A : Type 0} (l : List A) (i : ℕ) (a : A) → i < length l → take (i + 1) (set l i a) ≡ take i l ++ (a ∷ [])
 take-set l i a h = ap (λ (k : ℕ). take k (set l i a)) (add-one i) ∙ take-suc-set l i a h
 
 module _ {R : Reader (Unit {0})} {n at i next : ℕ} {begins : List ℕ} (a : Collected R n at i next begins) where

@@ -2,17 +2,16 @@
 -- widths are kept; the net's word, its places and its transitions.
 use mathlib.Core.Path.{_≡_, refl, sym, ap, _∙_, subst}
 use Prim.Native.Nat.{ℕ, suc, _+_, _/_, _%_, _≤_, _<_}
-use mathlib.Core.Bool.{Bool, true, false, _&&_}
+use mathlib.Core.Bool.{true, _&&_}
 use mathlib.Core.List.{List, [], _∷_, _++_, map, zip, zipWith}
 use borrow.Author.Needs.{needs}
-use borrow.Author.Tests.{leb-true}
 use native.Mathlib.Omega.{arith}
-use lib.Dec.{leb}
 use lib.ListN.{length, take, set}
 use lib.Seq.{length-take-le}
-use Rattle.semantics.specs.Word.{only}
+use Rattle.semantics.specs.Word.{only, between}
 use Rattle.semantics.specs.Reading.{Reading, read, refused, then}
-use Rattle.semantics.proofs.Tests.{false-true}
+use Rattle.semantics.proofs.Tests.{and-left, and-right}
+use Rattle.semantics.proofs.Accepted.{between-true}
 use Rattle.expression.specs.declared.read.Skipped.{Skipped}
 use Rattle.expression.specs.declared.read.Skipped.the-variants.{Next, Refused}
 use Rattle.expression.specs.Skip.{forget, skipped}
@@ -104,28 +103,21 @@ seconds [] (b ∷ ys) l = absurd (omega arith)
 seconds (a ∷ xs) [] l = absurd (omega arith)
 seconds (a ∷ xs) (b ∷ ys) l = ap (λ (r : List ℕ). b ∷ r) (seconds xs ys (omega arith))
 
-two-of : (a b c d e : Bool) → (a && (b && c) && (d && e)) ≡ true → (c ≡ true) × (e ≡ true)
-two-of false b c d e h = false-true h
-two-of true false c d e h = false-true h
-two-of true true false d e h = false-true h
-two-of true true true false e h = false-true h
-two-of true true true true e h = (refl, h)
-
 module _ (ws : List ℕ) (at : ℕ) {t : Taken} (w : IsTaken ws at 1 t) where
   pub net-refused : {m s : ℕ} → t ≡ TakeRefused m s → refused m s ≡ skimNet ws at
   unfolding skimNet
   net-refused e = rw (word-refused w e)
 
   module _ {p : ℕ} (e : t ≡ Word p) where
-    numbers : (leb (p / 256 % 256) 64 ≡ true) × (leb (p / 1 % 256) 64 ≡ true)
+    word-fits : (only 16 p && between 1 64 (p / 256 % 256) && between 1 64 (p / 1 % 256)) ≡ true
     unfolding fitsKind
-    numbers = two-of (only 16 p) (leb 1 (p / 256 % 256)) (leb (p / 256 % 256) 64) (leb 1 (p / 1 % 256)) (leb (p / 1 % 256) 64) (subst (Takes ws at 1) e (w .exists) .fits)
+    word-fits = subst (Takes ws at 1) e (w .exists) .fits
 
     pub few-places : p / 256 % 256 ≤ 64
-    few-places = leb-true (p / 256 % 256) 64 (numbers .0)
+    few-places = between-true 1 64 (p / 256 % 256) (and-right (only 16 p) (between 1 64 (p / 256 % 256)) (and-left (only 16 p && between 1 64 (p / 256 % 256)) (between 1 64 (p / 1 % 256)) word-fits)) .1
 
     pub few-transitions : p % 256 ≤ 64
-    few-transitions = let h : p / 1 % 256 ≤ 64 = leb-true (p / 1 % 256) 64 (numbers .1) in omega arith
+    few-transitions = let few = between-true 1 64 (p / 1 % 256) (and-right (only 16 p && between 1 64 (p / 256 % 256)) (between 1 64 (p / 1 % 256)) word-fits) .1 in omega arith
 
     module _ {end : Skipped} (ps : List (ℕ × ℕ)) (a : upTo end ps ≡ skimPlaces (p / 256 % 256) ws (at + 1)) where
       pub net-stops : {m q : ℕ} (o : NetOutline) → end ≡ Refused m q → upTo end o ≡ skimNet ws at

@@ -8,8 +8,8 @@ use Rattle.semantics.specs.Reading.{Reading, read, refused, then, Reader, sever
 use Rattle.semantics.specs.Word.{bits, only}
 use Rattle.semantics.specs.Net.{Place, Arc, Conjunct, Element, Transition, rangesAt}
 use Rattle.semantics.specs.ReadNet.{readExpression, readRange, readPlace, readArc, readConjunct, readElement, readTransition, readNet}
-use Rattle.semantics.proofs.Tests.{false-true}
 use Rattle.semantics.proofs.Readers.{Gives, gives, given, then-gives, as-read}
+use Rattle.semantics.proofs.Spans.{several-length}
 use Rattle.expression.specs.Skip.{forget}
 use Rattle.expression.proofs.Passing.{forget-then}
 use Rattle.kinds.specs.Taken.{fitsKind}
@@ -27,10 +27,6 @@ forget-after (refused n p) k = refl
 pub forget-gives : {A B : Type 0} (r : Reading A) (f : A → B) → forget (then r (λ a n. read (f a) n)) ≡ forget r
 forget-gives (read a next) f = refl
 forget-gives (refused n p) f = refl
-
-forget-forget : {A : Type 0} (r : Reading A) → forget (forget r) ≡ forget r
-forget-forget (read a next) = refl
-forget-forget (refused n p) = refl
 
 -- the next step looks at a part of what is read
 changed-then : {A B C D : Type 0} (f : A → B) (g : C → D) (r : Reading A) (k : A → ℕ → Reading C) (k′ : B → ℕ → Reading D) → ((a : A) (n : ℕ) → changed g (k a n) ≡ k′ (f a) n) → changed g (then r k) ≡ then (changed f r) k′
@@ -99,19 +95,6 @@ skim-arc ws places v at =
     step q n =
         forget-then (readExpression ws v n) _ (λ n. forget (starts (getD (map width places) q 0) (skimExpression ws v) n))
         (λ c n. forget-gives (several (length (rangesAt places q)) (readExpression ws v) n) _ ∙ several-forgets (readExpression ws v) (skimExpression ws v) (λ at. refl) (length (rangesAt places q)) n ∙ ap (λ (k : ℕ). forget (starts k (skimExpression ws v) n)) (widths-at places q))
-
-pub several-length : {A : Type 0} (r : Reader A) (n at : ℕ) (xs : List A) (next : ℕ) → several n r at ≡ read xs next → length xs ≡ n
-unfolding several
-several-length r zero at xs next e = let h : [] ≡ xs = cc in ap length (sym h)
-several-length {A} r (suc n) at xs next e = by (r at) e (several-length r n)
-  where
-    rest : (a : A) (mid : ℕ) (y : Reading (List A)) → several n r mid ≡ y → then y (λ as′ end. read (a ∷ as′) end) ≡ read xs next → ((at : ℕ) (xs : List A) (next : ℕ) → several n r at ≡ read xs next → length xs ≡ n) → length xs ≡ suc n
-    rest a mid (refused i j) p q f = false-true (cc)
-    rest a mid (read as′ end) p q f = let h : a ∷ as′ ≡ xs = cc in ap length (sym h) ∙ ap suc (f mid as′ end p)
-
-    by : (x : Reading A) → then x (λ a next. then (several n r next) (λ as′ end. read (a ∷ as′) end)) ≡ read xs next → ((at : ℕ) (xs : List A) (next : ℕ) → several n r at ≡ read xs next → length xs ≡ n) → length xs ≡ suc n
-    by (refused i j) q f = false-true (cc)
-    by (read a mid) q f = rest a mid (several n r mid) refl q f
 
 -- of several structures only their number is kept
 changed-number : {A C D : Type 0} (g : C → D) (r : Reader A) (n at : ℕ) (k : List A → ℕ → Reading C) (k′ : ℕ → Reading D) → ((xs : List A) (m : ℕ) → length xs ≡ n → changed g (k xs m) ≡ k′ m) → changed g (then (several n r at) k) ≡ then (forget (several n r at)) (λ u m. k′ m)

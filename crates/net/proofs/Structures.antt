@@ -37,11 +37,14 @@ stricter ws k weak ok all at = by (wordAt ws at)
     by (refused n q) = refl
 
 module _ {ws : List ℕ} {at k : ℕ} {t : Taken} (w : IsTaken ws at k t) where
+  pub word-told : {u : Taken} → t ≡ u → word ws k (fitsKind k) at ≡ taken at u
+  word-told e = sym (w .same) ∙ ap (taken at) e
+
   pub word-refused : {m s : ℕ} → t ≡ TakeRefused m s → word ws k (fitsKind k) at ≡ refused m s
-  word-refused e = sym (w .same) ∙ ap (taken at) e
+  word-refused e = word-told e
 
   pub word-taken : {p : ℕ} → t ≡ Word p → word ws k (fitsKind k) at ≡ read p (at + 1)
-  word-taken e = sym (w .same) ∙ ap (taken at) e
+  word-taken e = word-told e
 
   -- the next position is a number of the machine
   pub next-fits : {p : ℕ} → t ≡ Word p → Fits w64 (at + 1)

@@ -2,15 +2,13 @@
 -- reading of its own, so that each step of the code is one equation; a refusal is handed on from part to part.
 use mathlib.Core.Path.{_≡_, refl, sym, ap, _∙_, subst}
 use Prim.Native.Nat.{ℕ, _+_, _/_, _%_, _≤_}
-use mathlib.Core.Bool.{Bool, true, false, _&&_}
 use mathlib.Core.List.{List}
 use borrow.Author.Needs.{needs}
-use borrow.Author.Tests.{leb-true}
 use native.Mathlib.Omega.{arith}
-use lib.Dec.{leb}
 use Rattle.semantics.specs.Word.{only}
 use Rattle.semantics.specs.Reading.{Reading, read, refused, then, Reader}
 use Rattle.semantics.proofs.Tests.{false-true}
+use Rattle.semantics.proofs.Accepted.{few-counts}
 use Rattle.expression.specs.declared.read.Skipped.{Skipped}
 use Rattle.expression.specs.declared.read.Skipped.the-variants.{Next, Refused}
 use Rattle.expression.specs.Skip.{forget, skipped}
@@ -69,23 +67,13 @@ module _ (ws widths : List ℕ) (w : ℕ) where
 
 -- ── The word ──
 
-five-of : (a b c d e f : Bool) → (a && b && c && d && e && f) ≡ true → (b ≡ true) × (c ≡ true) × (d ≡ true) × (e ≡ true) × (f ≡ true)
-five-of false b c d e f h = false-true h
-five-of true false c d e f h = false-true h
-five-of true true false d e f h = false-true h
-five-of true true true false e f h = false-true h
-five-of true true true true false f h = false-true h
-five-of true true true true true f h = (refl, refl, refl, refl, h)
-
 module _ {ws : List ℕ} {at : ℕ} {t : Taken} (w : IsTaken ws at 4 t) {p : ℕ} (e : t ≡ Word p) where
-  numbers : (leb (p / 1 % 16) 8 ≡ true) × (leb (p / 16 % 16) 8 ≡ true) × (leb (p / 256 % 16) 8 ≡ true) × (leb (p / 4096 % 16) 8 ≡ true) × (leb (p / 65536 % 16) 8 ≡ true)
-  unfolding fitsKind
-  numbers = five-of (only 20 p) (leb (p / 1 % 16) 8) (leb (p / 16 % 16) 8) (leb (p / 256 % 16) 8) (leb (p / 4096 % 16) 8) (leb (p / 65536 % 16) 8) (subst (Takes ws at 4) e (w .exists) .fits)
-
   pub few-parts : (p % 16 ≤ 8) × (p / 16 % 16 ≤ 8) × (p / 256 % 16 ≤ 8) × (p / 4096 % 16 ≤ 8) × (p / 65536 % 16 ≤ 8)
+  unfolding fitsKind
   few-parts =
-      let h : p / 1 % 16 ≤ 8 = leb-true (p / 1 % 16) 8 (numbers .0) in
-      (omega arith, leb-true (p / 16 % 16) 8 (numbers .1), leb-true (p / 256 % 16) 8 (numbers .2), leb-true (p / 4096 % 16) 8 (numbers .3), leb-true (p / 65536 % 16) 8 (numbers .4))
+      let few = few-counts (only 20 p) (p / 1 % 16) (p / 16 % 16) (p / 256 % 16) (p / 4096 % 16) (p / 65536 % 16) (subst (Takes ws at 4) e (w .exists) .fits) in
+      let variables = few .0 in
+      (omega arith, few .1, few .2, few .3, few .4)
 
 -- ── Each return ──
 

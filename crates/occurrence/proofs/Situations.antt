@@ -1,8 +1,8 @@
 -- The rules of a situation: net, then transition, then marking. Each is told by its index; what the indexes have is what semantics reads,
 -- since each structure stands at its position.
 use mathlib.Core.Path.{_≡_, sym, ap, _∙_}
-use Prim.Native.Nat.{ℕ, zero, suc, min, _≤_, _<_}
-use mathlib.Core.List.{List, [], _∷_, map}
+use Prim.Native.Nat.{ℕ, min, _≤_, _<_}
+use mathlib.Core.List.{List, map}
 use mathlib.Core.Option.{some}
 use native.Mathlib.Omega.{arith}
 use lib.ListN.{length, getD, getElem?, take}
@@ -15,10 +15,10 @@ use Rattle.semantics.specs.Plan.{acceptNet}
 use Rattle.semantics.specs.Marking.{Entry, readMarking}
 use Rattle.semantics.specs.Calls.{Situation as Situated, situation}
 use Rattle.semantics.proofs.Tests.{false-true}
-use Rattle.semantics.proofs.Members.{none-some, length-at, past-elem, every-elem}
-use Rattle.expression.specs.declared.read.Skipped.{Skipped}
+use Rattle.semantics.proofs.Members.{length-at, past-elem, every-elem, map-elem}
 use Rattle.expression.specs.declared.read.Skipped.the-variants.{Next, Refused}
 use Rattle.expression.specs.Skip.{forget, skipped}
+use Rattle.expression.proofs.Laws.{passed-read, passed-refused}
 use Rattle.net.specs.declared.index.NetIndex.{NetIndex}
 use Rattle.net.specs.declared.index.TransitionIndex.{TransitionIndex}
 use Rattle.net.specs.Skim.{changed, netOutline, width, skimTransition}
@@ -35,24 +35,8 @@ use Rattle.marking.specs.Marked.{markingRead, IsMarking}
 use Rattle.occurrence.specs.declared.situation.Situation.{Situation}
 use Rattle.occurrence.specs.Situation.{Prepared, IsSituation}
 
--- ── A transition by its number ──
-
-pub position-elem : (ts : List Transition) (i : ℕ) (t : Transition) → getElem? ts i ≡ some t → getD (map (λ (t : Transition). t .position) ts) i 0 ≡ t .position
-position-elem [] i t h = none-some h
-position-elem (x ∷ xs) zero t h = let q : x ≡ t = cc in ap (λ (t : Transition). t .position) q
-position-elem (x ∷ xs) (suc i) t h = position-elem xs i t h
-
 pub next-refused : {X : Type 0} {next n p : ℕ} → Next next ≡ Refused n p → X
 next-refused e = false-true (cc)
-
--- a reading that the code has passed over, told by its end
-pub passed-refused : {A : Type 0} (x : Reading A) (s : Skipped) {n p : ℕ} → skipped s ≡ forget x → s ≡ Refused n p → x ≡ refused n p
-passed-refused (read a k) s {n} {p} e d = let b : refused n p ≡ read tt k = sym (ap skipped d) ∙ e in false-true (cc)
-passed-refused (refused m q) s {n} {p} e d = let b : refused n p ≡ refused m q = sym (ap skipped d) ∙ e in cc
-
-pub passed-read : {A : Type 0} (x : Reading A) (s : Skipped) {n : ℕ} → skipped s ≡ forget x → s ≡ Next n → (a : A) × (x ≡ read a n)
-passed-read (read a k) s {n} e d = let b : read tt n ≡ read tt k = sym (ap skipped d) ∙ e in (a, cc)
-passed-read (refused m q) s {n} e d = let b : read tt n ≡ refused m q = sym (ap skipped d) ∙ e in false-true (cc)
 
 -- ── By the answers of the code ──
 
@@ -102,7 +86,7 @@ module _ (ws ms : List ℕ) (t : ℕ) (r : Extent) {places widths transitions : 
       known = length-at (net .transitions) t (omega (arith, many))
 
       at-position : getD (i .«transitions_at») t 0 ≡ known .0 .position
-      at-position = sym (getD-take q (i .«transitions_at») t 0 h) ∙ ap (λ (l : List ℕ). getD l t 0) (sym positions) ∙ position-elem (net .transitions) t (known .0) (known .1)
+      at-position = sym (getD-take q (i .«transitions_at») t 0 h) ∙ ap (λ (l : List ℕ). getD l t 0) (sym positions) ∙ map-elem (λ (t : Transition). t .position) (net .transitions) t (known .0) 0 (known .1)
 
       stands : At (readTransition ws (net .places)) (λ (t : Transition). t .position) (known .0)
       stands = every-elem (At (readTransition ws (net .places)) (λ (t : Transition). t .position)) (net .transitions) t (known .0) (net-transitions ws 0 net next reads) (known .1)

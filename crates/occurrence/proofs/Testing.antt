@@ -15,6 +15,7 @@ use Rattle.semantics.specs.Calls.{yesOrNo, testCall}
 use Rattle.expression.specs.declared.read.Skipped.{Skipped}
 use Rattle.expression.specs.declared.read.Skipped.the-variants.{Next, Refused}
 use Rattle.expression.specs.Skip.{forget, skipped}
+use Rattle.expression.proofs.Laws.{passed-read, passed-refused}
 use Rattle.expression.specs.Evaluate.{lent}
 use Rattle.net.specs.Skim.{Outline}
 use Rattle.net.specs.Index.{outlined}
@@ -26,7 +27,6 @@ use Rattle.marking.proofs.Bound.{IsBinding, binding-read, ranged-small}
 use Rattle.occurrence.specs.declared.situation.Situation.{Situation}
 use Rattle.occurrence.specs.Answers.{IsEnabledAt}
 use Rattle.occurrence.specs.Situation.{Prepared, IsSituation}
-use Rattle.occurrence.proofs.Situations.{passed-refused, passed-read}
 use Rattle.occurrence.proofs.Reading.{enabled-told, binding-lent}
 
 pub test-refused : (ws : List ℕ) (t : ℕ) (ms bs : List ℕ) {s : Situation} {n p : ℕ} → IsSituation ws t ms s → s .end ≡ Refused n p → TestRefused n p ≡ testCall ws t ms bs

@@ -5,26 +5,26 @@
 use mathlib.Core.Path.{_≡_, refl, sym, ap, _∙_, subst, fun-ext}
 use mathlib.Core.Logic.{_⊎_, inl, inr}
 use mathlib.Core.Bool.{true, false, cond, _&&_}
-use mathlib.Core.List.{List, [], _∷_, _++_, flatMap, append-nil, append-assoc, List·Memᴰ, List·Memᴰ·head, List·Memᴰ·tail, List·Memᴰ·not-nil, List·Memᴰ·cases-cons, List·Memᴰ·eq-of-singleton, List·Memᴰ·append-cases, Memᴰ·append-left, Memᴰ·append-right, Memᴰ·cast}
+use mathlib.Core.List.{List, [], _∷_, _++_, flatMap, append-assoc, List·Memᴰ, List·Memᴰ·head, List·Memᴰ·tail, List·Memᴰ·not-nil, List·Memᴰ·cases-cons, List·Memᴰ·append-cases, Memᴰ·append-left, Memᴰ·append-right, Memᴰ·cast}
 use Prim.Native.Nat.{ℕ, zero, suc, _+_, _-_, _≤_}
 use native.Mathlib.Omega.{arith}
 use borrow.Author.Tests.{eqb-true, ne-eqb}
 use lib.Dec.{eqb}
 use lib.IntN.{ℤ}
 use lib.ListN.{length, take, drop, length-append, length-map, length-drop}
-use lib.Seq.{slice, slice-empty, length-slice, length-take-le, take-add, drop-at, take-append-add, drop-length}
-use Rattle.semantics.specs.Refusal.{badMarking}
+use lib.Seq.{slice, slice-empty, length-slice, length-take-le, take-add, drop-at, take-append-add}
 use Rattle.semantics.specs.Lists.{Every}
 use Rattle.semantics.specs.Word.{valueWord}
 use Rattle.semantics.specs.Reading.{read}
 use Rattle.semantics.specs.Net.{Place, Net}
 use Rattle.semantics.specs.Order.{sameTuple, before, Rising}
-use Rattle.semantics.specs.Marking.{Entry, key, readEntries, Counts, countsOf, entryWords, markingWords}
+use Rattle.semantics.specs.Marking.{Entry, key, Counts, countsOf, entryWords, markingWords}
 use Rattle.semantics.proofs.Tests.{either, and-left, and-right, cond-false, tuple-same, Every-at, Every-of}
-use Rattle.semantics.proofs.Order.{before-trans, before-irrefl, before-total}
-use Rattle.semantics.proofs.Spans.{numbered-read, drop-after}
-use Rattle.semantics.proofs.Entries.{entryKey, entry-path, wordsOfEntry, wordsOf, Good, counts-some, counts-member, entriesOf-words, entries-again}
-use Rattle.semantics.proofs.ReadEntries.{Accepted, entries-read}
+use Rattle.semantics.proofs.Order.{before-trans, before-total, before-unlike, before-same, before-once, rising-append}
+use Rattle.semantics.proofs.Tuples.{flatMap-append}
+use Rattle.semantics.proofs.Spans.{drop-after}
+use Rattle.semantics.proofs.Entries.{entryKey, entry-path, wordsOfEntry, wordsOf, Good, counts-some, counts-member, entryOf, entryOf-words, entryOf-in, in-entryOf, entryOf-rises, entriesOf-words, entries-again}
+use Rattle.semantics.proofs.ReadEntries.{Accepted, whole-read, whole-words}
 use Rattle.marking.specs.Marked.{markingRead, positionOf}
 use Rattle.patch.specs.Patch.{Change, changeKey, patched, oldLength, newLength, Told, Untouched, Changing, Apart, InOrder}
 
@@ -48,23 +48,6 @@ slice-past l s xs ys t e h k =
 
 -- ── Where entries stand, and their counts ──
 
-after-not : (a b : List ℤ) → before a b ≡ true → before b a ≡ false
-after-not a b h = by (either (before b a))
-  where
-    by : (before b a ≡ true) ⊎ (before b a ≡ false) → before b a ≡ false
-    by (inl t) = absurd (before-irrefl a (before-trans a b a h t))
-    by (inr t) = t
-
-same-not : (a b : List ℤ) → a ≡ b → before a b ≡ false
-same-not a b q = by (either (before a b))
-  where
-    by : (before a b ≡ true) ⊎ (before a b ≡ false) → before a b ≡ false
-    by (inl t) = absurd (before-irrefl b (subst (λ (x : List ℤ). before x b ≡ true) q t))
-    by (inr t) = t
-
-differ : (a b : List ℤ) → before a b ≡ true → a ≡ b → ⊥
-differ a b h q = before-irrefl b (subst (λ (x : List ℤ). before x b ≡ true) q h)
-
 size : (e : Entry) → length (wordsOfEntry e) ≡ 1 + length (e .colour)
 size e = omega (arith, length-map (e .colour) valueWord)
 
@@ -75,18 +58,14 @@ After k es = Every (λ (e : Entry). before k (entryKey e) ≡ true) es
 abbrev AfterAll : List ℤ → List Change → Type 0
 AfterAll k ts = Every (λ (t : Change). before k (changeKey t) ≡ true) ts
 
-after-trans : (j k : List ℤ) (es : List Entry) → before j k ≡ true → After k es → After j es
-after-trans j k [] h a = tt
-after-trans j k (e ∷ es) h a = (before-trans j k (entryKey e) h (a .0), after-trans j k es h (a .1))
-
-afterAll-trans : (j k : List ℤ) (ts : List Change) → before j k ≡ true → AfterAll k ts → AfterAll j ts
-afterAll-trans j k [] h a = tt
-afterAll-trans j k (t ∷ ts) h a = (before-trans j k (changeKey t) h (a .0), afterAll-trans j k ts h (a .1))
+after-trans : {A : Type 0} (f : A → List ℤ) (j k : List ℤ) (xs : List A) → before j k ≡ true → Every (λ (x : A). before k (f x) ≡ true) xs → Every (λ (x : A). before j (f x) ≡ true) xs
+after-trans f j k [] h a = tt
+after-trans f j k (x ∷ xs) h a = (before-trans j k (f x) h (a .0), after-trans f j k xs h (a .1))
 
 position-after : (es : List Entry) (k : List ℤ) → After k es → positionOf es k ≡ 0
 unfolding positionOf
 position-after [] k a = refl
-position-after (e ∷ es) k a = rw (after-not k (entryKey e) (a .0), position-after es k (a .1))
+position-after (e ∷ es) k a = rw (before-once k (entryKey e) (a .0), position-after es k (a .1))
 
 counts-none : (es : List Entry) (p : ℕ) (c : List ℤ) → ((e : Entry) → List·Memᴰ e es → entryKey e ≡ key p c → ⊥) → countsOf es p c ≡ 0
 counts-none es p c f = by (countsOf es p c) refl
@@ -120,13 +99,13 @@ unfolding positionOf
 placed-past src e es t b p =
     let l = size e in
     let i = rw b at (p .at) in
-    record { at = omega arith; old = rw (counts-past e es (t .place) (t .colour) (differ (entryKey e) (changeKey t) b)) at (p .old) }
+    record { at = omega arith; old = rw (counts-past e es (t .place) (t .colour) (before-unlike (entryKey e) (changeKey t) b)) at (p .old) }
 
 -- a change whose key has no entry, and one whose key has the first
 no-entry : (src : ℕ) (es : List Entry) (t : Change) → After (changeKey t) es → Placed src es t → (t .at ≡ src) × (t .old ≡ 0)
 no-entry src es t a p =
     let i = position-after es (changeKey t) a in
-    let z = counts-none es (t .place) (t .colour) (λ e k q. differ (changeKey t) (entryKey e) (Every-at (λ (e : Entry). before (changeKey t) (entryKey e) ≡ true) a k) (sym q)) in
+    let z = counts-none es (t .place) (t .colour) (λ e k q. before-unlike (changeKey t) (entryKey e) (Every-at (λ (e : Entry). before (changeKey t) (entryKey e) ≡ true) a k) (sym q)) in
     let j = p .at in
     (omega arith, rw z at (p .old))
 
@@ -135,7 +114,7 @@ unfolding positionOf
 own-entry src e es t q r s p =
     let a : After (changeKey t) es = subst (λ (k : List ℤ). After k es) q (r .0) in
     let i = position-after es (changeKey t) a in
-    let j = rw (same-not (entryKey e) (changeKey t) q) at (p .at) in
+    let j = rw (before-same (entryKey e) (changeKey t) q) at (p .at) in
     let x : e .place ≡ t .place = cc q in
     let y : e .colour ≡ t .colour = cc q in
     let n : countsOf (e ∷ es) (t .place) (t .colour) ≡ e .count = rw (← x, ← y) (counts-member (e ∷ es) r e (List·Memᴰ·head refl)) in
@@ -173,33 +152,15 @@ rest-taken r = record { spelled = r .spelled; whole = r .whole; rises = r .rises
 
 -- ── Entries and changes merged ──
 
--- the entry of a place and colour with a count, none for 0
-entryOf : ℕ → List ℤ → ℕ → List Entry
-entryOf p c zero = []
-entryOf p c (suc n) = record { place = p; count = suc n; colour = c } ∷ []
+-- an entry put in front of others
+front-words : (p : ℕ) (c : List ℤ) (n : ℕ) (es : List Entry) → entryWords p c n ++ wordsOf es ≡ wordsOf (entryOf p c n ++ es)
+front-words p c n es = ap (λ (l : List ℕ). l ++ wordsOf es) (sym (entryOf-words p c n)) ∙ sym (flatMap-append wordsOfEntry (entryOf p c n) es)
 
-entryOf-words : (p : ℕ) (c : List ℤ) (n : ℕ) (es : List Entry) → entryWords p c n ++ wordsOf es ≡ wordsOf (entryOf p c n ++ es)
-unfolding entryOf entryWords flatMap
-entryOf-words p c zero es = refl
-entryOf-words p c (suc n) es = refl
-
-entryOf-rises : (p : ℕ) (c : List ℤ) (n : ℕ) (es : List Entry) → After (key p c) es → Rising entryKey es → Rising entryKey (entryOf p c n ++ es)
-unfolding entryOf
-entryOf-rises p c zero es a r = r
-entryOf-rises p c (suc n) es a r = (a, r)
-
-entryOf-in : (p : ℕ) (c : List ℤ) (n : ℕ) (e : Entry) → List·Memᴰ e (entryOf p c n) → (key p c ≡ entryKey e) × (e .count ≡ n) × (1 ≤ e .count)
-unfolding entryOf
-entryOf-in p c zero e k = absurd (List·Memᴰ·not-nil k)
-entryOf-in p c (suc n) e k =
-    let q = List·Memᴰ·eq-of-singleton k in
-    let z = ap (λ (d : Entry). d .count) q in
-    (sym (ap entryKey q), z, omega arith)
-
-in-entryOf : (p : ℕ) (c : List ℤ) (n : ℕ) (e : Entry) → key p c ≡ entryKey e → e .count ≡ n → 1 ≤ e .count → List·Memᴰ e (entryOf p c n)
-unfolding entryOf
-in-entryOf p c zero e q z s = absurd (omega arith)
-in-entryOf p c (suc n) e q z s = List·Memᴰ·head (entry-path e (record { place = p; count = suc n; colour = c }) (cc q) z (cc q))
+front-rises : (p : ℕ) (c : List ℤ) (n : ℕ) (es : List Entry) → After (key p c) es → Rising entryKey es → Rising entryKey (entryOf p c n ++ es)
+front-rises p c n es a r =
+    rising-append entryKey (entryOf p c n) es (entryOf-rises p c n) r λ x y i j.
+    let h = entryOf-in p c n x i in
+    rw (h .0, h .1) (Every-at (λ (e : Entry). before (key p c) (entryKey e) ≡ true) a j)
 
 -- an entry that no change touches, or the new one of a change
 data From (es : List Entry) (ts : List Change) (e : Entry) : Type 0 where
@@ -260,7 +221,7 @@ merged-past {ws} {src} {e} {es} {t} {ts} r a m =
     old d (set s i q n o) = set s i q n o
 
     forth : (d : Entry) → (d ≡ e) ⊎ List·Memᴰ d (m .entries) → From (e ∷ es) (t ∷ ts) d
-    forth d (inl q) = kept (List·Memᴰ·head q) (λ s j p. differ (entryKey e) (changeKey s) (Every-at (λ (s : Change). before (entryKey e) (changeKey s) ≡ true) a j) (sym (p ∙ ap entryKey q)))
+    forth d (inl q) = kept (List·Memᴰ·head q) (λ s j p. before-unlike (entryKey e) (changeKey s) (Every-at (λ (s : Change). before (entryKey e) (changeKey s) ≡ true) a j) (sym (p ∙ ap entryKey q)))
     forth d (inr i) = old d (m .forth d i)
 
     stays : (d : Entry) → Untouched (t ∷ ts) (entryKey d) → (d ≡ e) ⊎ List·Memᴰ d es → List·Memᴰ d (e ∷ m .entries)
@@ -276,8 +237,8 @@ merged-set : {ws : List ℕ} (src : ℕ) (own : List Entry) {es : List Entry} (t
 unfolding patched
 merged-set {ws} src own {es} t {ts} h o a b f g m = record {
   entries = entryOf (t .place) (t .colour) (t .count) ++ m .entries;
-  spelled = ap (λ (x : List ℕ). x ++ (entryWords (t .place) (t .colour) (t .count) ++ patched ws (t .at + t .old) ts)) nothing ∙ ap (λ (x : List ℕ). entryWords (t .place) (t .colour) (t .count) ++ x) (m .spelled) ∙ entryOf-words (t .place) (t .colour) (t .count) (m .entries);
-  rises = entryOf-rises (t .place) (t .colour) (t .count) (m .entries) (Every-of (λ (d : Entry). before (changeKey t) (entryKey d) ≡ true) (m .entries) (λ d i. from-after (changeKey t) es ts d a b (m .forth d i))) (m .rises);
+  spelled = ap (λ (x : List ℕ). x ++ (entryWords (t .place) (t .colour) (t .count) ++ patched ws (t .at + t .old) ts)) nothing ∙ ap (λ (x : List ℕ). entryWords (t .place) (t .colour) (t .count) ++ x) (m .spelled) ∙ front-words (t .place) (t .colour) (t .count) (m .entries);
+  rises = front-rises (t .place) (t .colour) (t .count) (m .entries) (Every-of (λ (d : Entry). before (changeKey t) (entryKey d) ≡ true) (m .entries) (λ d i. from-after (changeKey t) es ts d a b (m .forth d i))) (m .rises);
   forth = λ d i. forth d (List·Memᴰ·append-cases (entryOf (t .place) (t .colour) (t .count)) i);
   back = back;
   apart = (omega arith, o, m .apart);
@@ -287,7 +248,7 @@ merged-set {ws} src own {es} t {ts} h o a b f g m = record {
     nothing = ap (λ (u : ℕ). slice u (t .at) ws) (sym h) ∙ slice-empty (t .at) ws
 
     untouched : (d : Entry) → List·Memᴰ d es → Untouched ts (entryKey d) → (s : Change) → changeKey s ≡ entryKey d → (s ≡ t) ⊎ List·Memᴰ s ts → ⊥
-    untouched d i u s p (inl q) = differ (changeKey t) (entryKey d) (Every-at (λ (d : Entry). before (changeKey t) (entryKey d) ≡ true) a i) (ap changeKey (sym q) ∙ p)
+    untouched d i u s p (inl q) = before-unlike (changeKey t) (entryKey d) (Every-at (λ (d : Entry). before (changeKey t) (entryKey d) ≡ true) a i) (ap changeKey (sym q) ∙ p)
     untouched d i u s p (inr j) = u s j p
 
     old : (d : Entry) → From es ts d → From own (t ∷ ts) d
@@ -295,7 +256,11 @@ merged-set {ws} src own {es} t {ts} h o a b f g m = record {
     old d (set s i q n z) = set s (List·Memᴰ·tail i) q n z
 
     forth : (d : Entry) → List·Memᴰ d (entryOf (t .place) (t .colour) (t .count)) ⊎ List·Memᴰ d (m .entries) → From own (t ∷ ts) d
-    forth d (inl i) = let k = entryOf-in (t .place) (t .colour) (t .count) d i in set t (List·Memᴰ·head refl) (k .0) (k .1) (k .2)
+    forth d (inl i) =
+        let k = entryOf-in (t .place) (t .colour) (t .count) d i in
+        let same = k .2 in
+        let some = k .3 in
+        set t (List·Memᴰ·head refl) (cc (k .0, k .1)) same (omega arith)
     forth d (inr i) = old d (m .forth d i)
 
     stays : (d : Entry) → Untouched (t ∷ ts) (entryKey d) → (entryKey d ≡ changeKey t) ⊎ List·Memᴰ d es → List·Memᴰ d (entryOf (t .place) (t .colour) (t .count) ++ m .entries)
@@ -303,7 +268,10 @@ merged-set {ws} src own {es} t {ts} h o a b f g m = record {
     stays d u (inr i) = Memᴰ·append-right (entryOf (t .place) (t .colour) (t .count)) (m .back d (kept i (λ s j p. u s (List·Memᴰ·tail j) p)))
 
     comes : (d : Entry) (s : Change) → changeKey s ≡ entryKey d → d .count ≡ s .count → 1 ≤ d .count → (s ≡ t) ⊎ List·Memᴰ s ts → List·Memᴰ d (entryOf (t .place) (t .colour) (t .count) ++ m .entries)
-    comes d s p n z (inl q) = Memᴰ·append-left (m .entries) (in-entryOf (t .place) (t .colour) (t .count) d (ap changeKey (sym q) ∙ p) (n ∙ ap (λ (t : Change). t .count) q) z)
+    comes d s p n z (inl q) =
+        let k : changeKey t ≡ entryKey d = ap changeKey (sym q) ∙ p in
+        let same : d .count ≡ t .count = n ∙ ap (λ (t : Change). t .count) q in
+        Memᴰ·append-left (m .entries) (in-entryOf (t .place) (t .colour) (t .count) d (cc k) (cc k) same (omega arith))
     comes d s p n z (inr i) = Memᴰ·append-right (entryOf (t .place) (t .colour) (t .count)) (m .back d (set s i p n z))
 
     back : (d : Entry) → From own (t ∷ ts) d → List·Memᴰ d (entryOf (t .place) (t .colour) (t .count) ++ m .entries)
@@ -331,7 +299,7 @@ walk ws t ts f (e ∷ es) src r = by (walk ws t ts f es) (before-total (entryKey
 
     by : ((src : ℕ) → Rest ws src es (t ∷ ts) → Merged ws src es (t ∷ ts)) → (before (entryKey e) (changeKey t) ≡ true) ⊎ ((entryKey e ≡ changeKey t) ⊎ (before (changeKey t) (entryKey e) ≡ true)) → Merged ws src (e ∷ es) (t ∷ ts)
     by g (inl b) =
-        let a : AfterAll (entryKey e) (t ∷ ts) = (b, afterAll-trans (entryKey e) (changeKey t) ts b (r .rising .0)) in
+        let a : AfterAll (entryKey e) (t ∷ ts) = (b, after-trans changeKey (entryKey e) (changeKey t) ts b (r .rising .0)) in
         merged-past r a (g (src + length (wordsOfEntry e)) (rest-past r a))
     by g (inr (inl q)) =
         let p = own-entry src e es t q (r .rises) (r .some .0) (r .placed .0) in
@@ -344,7 +312,7 @@ walk ws t ts f (e ∷ es) src r = by (walk ws t ts f es) (before-total (entryKey
         let z : src + length (wordsOfEntry e) ≡ t .at + t .old = omega arith in
         merged-set src (e ∷ es) t (p .0) (omega arith) h (r .rising .0) (λ d k. List·Memᴰ·tail k) (λ d k. own q d (List·Memᴰ·cases-cons k)) (subst (λ (s : ℕ). Merged ws s es ts) z (f (src + length (wordsOfEntry e)) es (rest-past (rest-taken r) a)))
     by g (inr (inr b)) =
-        let h : After (changeKey t) (e ∷ es) = (b, after-trans (changeKey t) (entryKey e) es b (r .rises .0)) in
+        let h : After (changeKey t) (e ∷ es) = (b, after-trans entryKey (changeKey t) (entryKey e) es b (r .rises .0)) in
         let p = no-entry src (e ∷ es) t h (r .placed .0) in
         let i = p .0 in
         let j = p .1 in
@@ -370,9 +338,9 @@ touched (u ∷ us) k = by (touched us k) (before-total (changeKey u) k)
     later d (inr f) = inr (λ t i q. apart d f t q (List·Memᴰ·cases-cons i))
 
     by : ((t : Change) × List·Memᴰ t us × (changeKey t ≡ k)) ⊎ Untouched us k → (before (changeKey u) k ≡ true) ⊎ ((changeKey u ≡ k) ⊎ (before k (changeKey u) ≡ true)) → ((t : Change) × List·Memᴰ t (u ∷ us) × (changeKey t ≡ k)) ⊎ Untouched (u ∷ us) k
-    by h (inl b) = later (differ (changeKey u) k b) h
+    by h (inl b) = later (before-unlike (changeKey u) k b) h
     by h (inr (inl q)) = inl (u, List·Memᴰ·head refl, q)
-    by h (inr (inr b)) = later (λ q. differ k (changeKey u) b (sym q)) h
+    by h (inr (inr b)) = later (λ q. before-unlike k (changeKey u) b (sym q)) h
 
 -- ── The theorem ──
 
@@ -380,7 +348,7 @@ touched (u ∷ us) k = by (touched us k) (before-total (changeKey u) k)
 module _ (ps : List Place) (ws : List ℕ) (es : List Entry) (next : ℕ) (r : markingRead ps ws ≡ read es next) where
   accepted : Accepted ps ws [] 0 es next
   unfolding markingRead
-  accepted = entries-read (length ws) ps ws [] 0 es next (omega arith) (numbered-read badMarking (readEntries (length ws) ps ws [] 0) es next r)
+  accepted = whole-read ps ws es next r
 
   module _ (net : Net) (m′ : Counts) (ts : List Change) (x : Changing net es m′ ts) where
     start : Rest ws 0 es ts
@@ -389,7 +357,7 @@ module _ (ps : List Place) (ws : List ℕ) (es : List Entry) (next : ℕ) (r : m
         let n = a .span .after in
         let e = a .ended in
         record {
-          spelled = a .span .split ∙ ap (λ (i : ℕ). wordsOf es ++ drop i ws) e ∙ ap (λ (l : List ℕ). wordsOf es ++ l) (drop-length ws) ∙ append-nil (wordsOf es);
+          spelled = whole-words ps ws es next a;
           whole = omega arith;
           rises = a .rises;
           some = Every-of (λ (e : Entry). 1 ≤ e .count) es (λ d k. Every-at (Good ps) (a .good) k .some);

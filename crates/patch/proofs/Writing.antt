@@ -5,7 +5,7 @@ use mathlib.Core.Logic.{_⊎_, inl, inr}
 use Prim.Native.Nat.{ℕ, zero, suc, _+_, _-_, _/_, _%_, _≤_, _<_}
 use mathlib.Core.Bool.{true, false}
 use mathlib.Core.List.{List, [], _∷_, _++_, map, append-nil, append-assoc}
-use native.Mathlib.Nat.{add-zero}
+use native.Mathlib.Nat.{add-zero, pos-of-ne-zero}
 use native.Mathlib.Numerals.{add-one}
 use native.Mathlib.Omega.{arith}
 use borrow.Author.Tests.{ltb-true, ltb-false}
@@ -56,15 +56,22 @@ module _ (d : List ℕ) (at : ℕ) where
 
 -- ── A part copied ──
 
--- a turn of the copy
+-- a turn of the copy of a list, and its end
+pub paste-turn : (d d′ s : List ℕ) (at j : ℕ) → d′ ≡ paste d at s j → j < length s → at + j < length d → set d′ (at + j) (getD s j 0) ≡ paste d at s (j + 1)
+paste-turn d d′ s at j e h l = rw (e, add-one j) (paste-suc d at s j 0 l h)
+
+pub paste-end : (d d′ s : List ℕ) (at j : ℕ) → d′ ≡ paste d at s j → j ≡ length s → d′ ≡ written d at s
+paste-end d d′ s at j e h = e ∙ paste-written d at s j h
+
+-- of a part of a list
 pub copy-turn : (ws d d′ : List ℕ) (from to at j : ℕ) → d′ ≡ paste d at (slice from to ws) j → j < to - from → to ≤ length ws → at + j < length d → set d′ (at + j) (getD ws (from + j) 0) ≡ paste d at (slice from to ws) (j + 1)
 copy-turn ws d d′ from to at j e h k l =
     let i : getD (slice from to ws) j 0 ≡ getD ws (from + j) 0 = getD-drop from (take to ws) j 0 ∙ getD-take to ws (from + j) 0 (omega arith) in
     let n = length-slice from to ws k in
-    rw (e, ← i, add-one j) (paste-suc d at (slice from to ws) j 0 l (omega arith))
+    rw (← i) (paste-turn d d′ (slice from to ws) at j e (omega arith) l)
 
 pub copy-end : (ws d d′ : List ℕ) (from to at j : ℕ) → d′ ≡ paste d at (slice from to ws) j → j ≡ to - from → to ≤ length ws → d′ ≡ written d at (slice from to ws)
-copy-end ws d d′ from to at j e h k = e ∙ paste-written d at (slice from to ws) j (h ∙ sym (length-slice from to ws k))
+copy-end ws d d′ from to at j e h k = paste-end d d′ (slice from to ws) at j e (h ∙ sym (length-slice from to ws k))
 
 -- ── The words of a colour ──
 
@@ -147,11 +154,7 @@ module _ (p n code count : ℕ) where
 
   module _ (some : (count ≡ 0 → ⊥)) where
     positive : 1 ≤ count
-    positive = by count some
-      where
-        by : (m : ℕ) → (m ≡ 0 → ⊥) → 1 ≤ m
-        by zero f = absurd (f refl)
-        by (suc m) f = omega arith
+    positive = pos-of-ne-zero some
 
     pub entry-length : length (entryWords p (coloured n code) count) ≡ n + 1
     entry-length =

@@ -6,41 +6,31 @@ use mathlib.Core.Logic.{_⊎_, inl, inr}
 use mathlib.Core.Bool.{true, false}
 use mathlib.Core.Option.{some}
 use Prim.Native.Nat.{ℕ, zero, suc, _+_, _*_, _/_, _%_, _≤_, _<_}
-use native.Mathlib.Numerals.{add-one}
 use native.Mathlib.Omega.{arith}
 use borrow.Author.Tests.{ltb-true, ltb-false}
 use lib.Dec.{ltb}
-use lib.ListN.{length, getD, getElem?, set, take, drop, length-append, length-map, length-take}
-use lib.Seq.{length-take-le, take-nil, take-all, take-at, take-take, take-append-le, drop-at, paste, paste-suc}
+use lib.ListN.{length, getD, getElem?, take, drop, length-append, length-map, length-take}
+use lib.Seq.{length-take-le, take-nil, take-all, take-at, take-take, take-append-le, drop-at}
 use Rattle.semantics.specs.Word.{bits}
 use Rattle.semantics.specs.Reading.{read, several}
 use Rattle.semantics.specs.Net.{Place, Arc, Conjunct, Element, Transition, Net}
 use Rattle.semantics.specs.ReadNet.{readRange, readArc, readConjunct, readElement, transitionWord, readTransition}
 use Rattle.semantics.specs.Plan.{acceptNet}
 use Rattle.semantics.proofs.Tests.{either}
-use Rattle.semantics.proofs.Members.{none-some, past-elem, every-elem}
-use Rattle.occurrence.proofs.Situations.{position-elem}
+use Rattle.semantics.proofs.Members.{none-some, past-elem, every-elem, map-elem}
 use Rattle.semantics.proofs.Readers.{Gives, gives, given, then-gives, as-read}
+use Rattle.semantics.proofs.Spans.{several-length}
 use Rattle.semantics.proofs.Accepted.{transition-sound, accepted-read, accepted-sound}
 use Rattle.net.specs.declared.index.Parts.{Parts}
 use Rattle.net.specs.declared.index.TransitionIndex.{TransitionIndex}
 use Rattle.net.specs.Skim.{Outline, outline, width}
 use Rattle.net.specs.Index.{AreParts}
-use Rattle.net.proofs.Skimming.{several-length}
 use Rattle.net.proofs.Located.{At, net-transitions}
 use Rattle.net.proofs.Placed.{word-here, index-outline}
 use Rattle.patch.specs.Patch.{written}
-use Rattle.patch.proofs.Writing.{written-written, paste-written}
+use Rattle.patch.proofs.Writing.{written-written}
 use Rattle.search.specs.Scene.{netOf}
 use Rattle.picks.specs.Parts.{FewParts, Parted, KeepsParts, NetRead, PartsKept}
-
--- ── Positions copied ──
-
-pub put-turn : (d d′ s : List ℕ) (at j : ℕ) → d′ ≡ paste d at s j → j < length s → at + j < length d → set d′ (at + j) (getD s j 0) ≡ paste d at s (j + 1)
-put-turn d d′ s at j e h l = rw (e, add-one j) (paste-suc d at s j 0 l h)
-
-pub put-end : (d d′ s : List ℕ) (at j : ℕ) → d′ ≡ paste d at s j → j ≡ length s → d′ ≡ written d at s
-put-end d d′ s at j e h = e ∙ paste-written d at s j h
 
 -- ── The numbers of a TRANSITION word ──
 
@@ -230,5 +220,5 @@ module _ {ws widths transitions : List ℕ} (N : NetRead ws widths transitions) 
               let g = ltb-false j i u in
               let z : j ≡ i = omega arith in
               let f : getElem? (net .transitions) i ≡ some t = ap (getElem? (net .transitions)) (sym z) ∙ e in
-              let p : getD transitions i 0 ≡ t .position = ap (λ (l : List ℕ). getD l i 0) (N .stand) ∙ position-elem (net .transitions) i t f in
+              let p : getD transitions i 0 ≡ t .position = ap (λ (l : List ℕ). getD l i 0) (N .stand) ∙ map-elem (λ (t : Transition). t .position) (net .transitions) i t 0 f in
               rw z (subst (λ (q : ℕ). Parted (getD ws q 0) (take 32 (drop (i * 32) after)) (outline t)) p (P .parts (net .places) t (stands t f .next) (N .wide) (rw p (stands t f .reads))))

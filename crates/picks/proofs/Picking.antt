@@ -27,8 +27,7 @@ use Rattle.semantics.specs.Enabling.{Firing, Enabled, isEnabled}
 use Rattle.semantics.specs.Run.{menu, Offer, offered, withheld, offer, fireAt, pickFrom, pick}
 use Rattle.semantics.specs.Calls.{Situation, MenuEnd, listedBy, limits}
 use Rattle.semantics.proofs.Tests.{false-true, Every-of}
-use Rattle.semantics.proofs.Members.{none-some, length-at, at-member, past-elem, every-elem}
-use Rattle.occurrence.proofs.Situations.{position-elem}
+use Rattle.semantics.proofs.Members.{none-some, length-at, at-member, past-elem, every-elem, map-elem}
 use Rattle.semantics.proofs.Accepted.{SoundArc, SoundTransition, transition-sound, accepted-read, accepted-sound, accepted-planned}
 use Rattle.semantics.proofs.Offer.{offer-made}
 use Rattle.semantics.proofs.Enabling.{enabled-complete}
@@ -128,7 +127,7 @@ module _ {ws ps transitions parts buffer : List ℕ} {size w : ℕ} (P : Pickabl
   stands = every-elem (At (readTransition ws (net .places)) (λ (t : Transition). t .position)) (net .transitions) (pickTransition w) (chosen .0) (net-transitions ws 0 net (P .known .whole) (accepted-read ws net (P .known .whole) (P .known .accepted))) (chosen .1)
 
   at-position : getD transitions (pickTransition w) 0 ≡ chosen .0 .position
-  at-position = ap (λ (l : List ℕ). getD l (pickTransition w) 0) (P .known .stand) ∙ position-elem (net .transitions) (pickTransition w) (chosen .0) (chosen .1)
+  at-position = ap (λ (l : List ℕ). getD l (pickTransition w) 0) (P .known .stand) ∙ map-elem (λ (t : Transition). t .position) (net .transitions) (pickTransition w) (chosen .0) 0 (chosen .1)
 
   reads : readTransition ws (net .places) (getD transitions (pickTransition w) 0) ≡ read (chosen .0) (stands .next)
   reads = rw at-position (stands .reads)

@@ -25,9 +25,9 @@ use Rattle.expression.specs.declared.read.Skipped.the-variants.{Next, Refused}
 use Rattle.expression.specs.Skip.{skipped}
 use Rattle.kinds.specs.declared.take.Taken.{Taken}
 use Rattle.kinds.specs.declared.take.Taken.the-variants.{Word, Refused as TakeRefused}
-use Rattle.kinds.specs.Taken.{fitsKind, taken, Takes, IsTaken}
+use Rattle.kinds.specs.Taken.{fitsKind, Takes, IsTaken}
 use Rattle.net.specs.Skim.{skimExpression}
-use Rattle.net.proofs.Structures.{next-fits}
+use Rattle.net.proofs.Structures.{word-told, next-fits}
 use Rattle.plans.specs.declared.bind.Bound.{Bound}
 use Rattle.plans.specs.Fitness.{after, unboundOf, loneAt, loneFrom, matchAt}
 use Rattle.plans.specs.Plan.{marked, nonEmpty, IsBound}
@@ -58,14 +58,11 @@ module _ (v : ℕ) (b : Bound) {n : ℕ} where
   variable-new h i l m = rw (lt-ltb n v h, m) (bound-new b n (omega arith))
 
 module _ (ws : List ℕ) (v at : ℕ) (b : Bound) {t : Taken} (w : IsTaken ws at 8 t) where
-  word-is : {u : Taken} → t ≡ u → word ws 8 (fitsKind 8) at ≡ taken at u
-  word-is e = sym (w .same) ∙ ap (taken at) e
-
   pub lone-refused : {m s : ℕ} → t ≡ TakeRefused m s → IsBound b (loneAt ws v (marked (b .marks)) at) b
-  lone-refused e = rw (word-is e) (bound-none b)
+  lone-refused e = rw (word-told w e) (bound-none b)
 
   pub lone-taken : {n : ℕ} {r : Bound} → t ≡ Word n → IsBound b (unboundOf v (marked (b .marks)) n) r → IsBound b (loneAt ws v (marked (b .marks)) at) r
-  lone-taken e x = rw (word-is e) x
+  lone-taken e x = rw (word-told w e) x
 
 -- a position has no lone variable, or one, whatever is bound
 pub data Lone (ws : List ℕ) (v at : ℕ) : Type 0 where
@@ -209,19 +206,16 @@ later-fits {ws} {at} {k} w e =
     record { fits = omega arith }
 
 module _ (ws widths : List ℕ) (v at : ℕ) (b : Bound) {t : Taken} (w : IsTaken ws at 5 t) where
-  arc-is : {u : Taken} → t ≡ u → word ws 5 (fitsKind 5) at ≡ taken at u
-  arc-is e = sym (w .same) ∙ ap (taken at) e
-
   nothing : matchAt ws widths v (marked (b .marks)) at ≡ [] → IsBound b (matchAt ws widths v (marked (b .marks)) at) b
   nothing e = rw e (bound-none b)
 
   pub match-refused : {m s : ℕ} → t ≡ TakeRefused m s → IsBound b (matchAt ws widths v (marked (b .marks)) at) b
   unfolding matchAt
-  match-refused e = nothing (rw (arc-is e))
+  match-refused e = nothing (rw (word-told w e))
 
   pub match-nowhere : {q : ℕ} → t ≡ Word q → length widths ≤ q → IsBound b (matchAt ws widths v (marked (b .marks)) at) b
   unfolding matchAt loneFrom
-  match-nowhere {q} e h = nothing (rw (arc-is e, List·getD-eq-default widths 0 {n = q} h) (by (word ws 7 (fitsKind 7) (at + 1))))
+  match-nowhere {q} e h = nothing (rw (word-told w e, List·getD-eq-default widths 0 {n = q} h) (by (word ws 7 (fitsKind 7) (at + 1))))
     where
       none : (t : Bool) → _≡_ {A = List ℕ} (cond t [] []) []
       none true = refl
@@ -232,25 +226,22 @@ module _ (ws widths : List ℕ) (v at : ℕ) (b : Bound) {t : Taken} (w : IsTake
       by (refused n p) = refl
 
   module _ {q : ℕ} (e : t ≡ Word q) {u : Taken} (x : IsTaken ws (at + 1) 7 u) where
-    constant-is : {s : Taken} → u ≡ s → word ws 7 (fitsKind 7) (at + 1) ≡ taken (at + 1) s
-    constant-is d = sym (x .same) ∙ ap (taken (at + 1)) d
-
     pub coefficient-refused : {m s : ℕ} → u ≡ TakeRefused m s → IsBound b (matchAt ws widths v (marked (b .marks)) at) b
     unfolding matchAt
-    coefficient-refused d = nothing (rw (arc-is e, constant-is d))
+    coefficient-refused d = nothing (rw (word-told w e, word-told x d))
 
     pub coefficient-low : {z : ℕ} → u ≡ Word z → z < 1 → IsBound b (matchAt ws widths v (marked (b .marks)) at) b
     unfolding matchAt
-    coefficient-low {z} d h = nothing (rw (arc-is e, constant-is d, lt-leb 1 z h))
+    coefficient-low {z} d h = nothing (rw (word-told w e, word-told x d, lt-leb 1 z h))
 
     pub coefficient-high : {z : ℕ} → u ≡ Word z → 1 ≤ z → 8191 < z → IsBound b (matchAt ws widths v (marked (b .marks)) at) b
     unfolding matchAt
-    coefficient-high {z} d h i = nothing (rw (arc-is e, constant-is d, le-leb 1 z h, lt-leb z 8191 i))
+    coefficient-high {z} d h i = nothing (rw (word-told w e, word-told x d, le-leb 1 z h, lt-leb z 8191 i))
 
     pub match-each : {z : ℕ} {r : Bound} → u ≡ Word z → 1 ≤ z → z ≤ 8191 → IsBound b (loneFrom ws v (marked (b .marks)) (getD widths q 0) (at + 2)) r → IsBound b (matchAt ws widths v (marked (b .marks)) at) r
     unfolding matchAt
     match-each {z} d h i y =
         let f : at + 1 + 1 ≡ at + 2 = omega arith in
-        rw (arc-is e, constant-is d, le-leb 1 z h, le-leb z 8191 i, f) y
+        rw (word-told w e, word-told x d, le-leb 1 z h, le-leb z 8191 i, f) y
 
 pub ruleset binding = (needs, variable-beyond, variable-bound, variable-new, lone-refused, lone-taken, binding-end, binding-turn, binding-stop, next-fits, later-fits, match-refused, match-nowhere, coefficient-refused, coefficient-low, coefficient-high, match-each)

@@ -10,12 +10,12 @@ use native.Mathlib.Omega.{arith}
 use borrow.Author.Needs.{needs}
 use lib.ListN.{length, getD, drop, take, set, replicate, drop-of-length-le}
 use lib.Seq.{drop-cons}
-use Rattle.semantics.specs.Plan.{member, everyBelow, fitOr}
+use Rattle.semantics.specs.Plan.{member, everyBelow, fitOr, firstOf as firstFault}
 use Rattle.semantics.specs.Net as net
 use Rattle.semantics.specs.Reading.{read, refused}
 use Rattle.semantics.specs.ReadNet.{readElement, sortOf}
 use Rattle.semantics.proofs.Tests.{false-true}
-use Rattle.semantics.proofs.Members.{past-elem, elem-number}
+use Rattle.semantics.proofs.Members.{past-elem, elem-number, replicate-same}
 use Rattle.expression.specs.declared.read.Skipped.{Skipped}
 use Rattle.expression.specs.declared.read.Skipped.the-variants.{Next, Refused}
 use Rattle.kinds.specs.Taken.{fitsKind, taken, IsTaken}
@@ -33,7 +33,7 @@ use Rattle.plans.specs.declared.element.Sort.the-variants.{Match, Solve,
 use Rattle.plans.specs.declared.plan.Fault.{Fault}
 use Rattle.plans.specs.declared.plan.Fault.the-variants.{Nothing}
 use Rattle.plans.specs.declared.plan.Reviewed.{Reviewed}
-use Rattle.plans.specs.Fitness.{unboundOf, matchAt, solveAt, bindsAt, planParts, elementOr, faultFrom, faultIn, transitionFault, firstFault, faultAmong}
+use Rattle.plans.specs.Fitness.{unboundOf, matchAt, solveAt, bindsAt, planParts, elementOr, faultFrom, faultIn, transitionFault, faultAmong}
 use Rattle.plans.specs.Plan.{sorted, marked, nonEmpty, fresh, IsBound, fault, IsReviewed, AreReviewed}
 use Rattle.plans.proofs.Binding.{bound-none}
 
@@ -149,12 +149,7 @@ module _ (ws widths : List ℕ) (o : Outline) (ps : List ℕ) (at : ℕ) {marks 
 -- ── The plan of a transition ──
 
 pub planned-start : (ws widths : List ℕ) (o : Outline) (ps : List ℕ) (at : ℕ) → Planned ws widths o ps at (replicate 8 false) 0
-planned-start ws widths o ps at = record { inside = omega arith; same = ap (λ (p : ℕ → Bool). faultFrom ws widths o at p ps) (fun-ext (λ k. unmarked 8 k)) }
-  where
-    unmarked : (n k : ℕ) → false ≡ marked (replicate n false) k
-    unmarked zero k = refl
-    unmarked (suc n) zero = refl
-    unmarked (suc n) (suc k) = unmarked n k
+planned-start ws widths o ps at = record { inside = omega arith; same = ap (λ (p : ℕ → Bool). faultFrom ws widths o at p ps) (fun-ext (λ k. sym (replicate-same 8 k false))) }
 
 -- the parts that a plan names are all that its faults are told from
 parts-fault : (ws widths : List ℕ) (o : Outline) (at : ℕ) (isBound : ℕ → Bool) (ps : List ℕ) → faultFrom ws widths (planParts (o .variables) (o .inputs) (o .guard)) at isBound ps ≡ faultFrom ws widths o at isBound ps

@@ -17,20 +17,21 @@ use Rattle.semantics.specs.Expression.{Expression, constant, variable, binary, 
 use Rattle.semantics.specs.Reading.{Reading, read, refused, then, Reader, demand, several, wordAt, word}
 use Rattle.semantics.specs.Net.{Place, Arc, equal, unequal, less, atMost, Conjunct, Sort, match, solve, range, Element, Transition, rangesAt}
 use Rattle.semantics.specs.ReadNet.{readExpression, readArc, relationOf, readConjunct, readElement, readTransition}
-use Rattle.semantics.specs.Plan.{loneUnbound, positiveConstant, solvedBy, eitherSide, isEquation, solution, solutionBinds, matchBinds, solveBinds, newlyBound, member, fitOr, planFault, plansFault, firstOf as firstOf′}
+use Rattle.semantics.specs.Plan.{loneUnbound, positiveConstant, solvedBy, eitherSide, isEquation, solution, solutionBinds, matchBinds, solveBinds, newlyBound, member, fitOr, planFault, plansFault}
 use Rattle.semantics.proofs.Readers.{Gives, gives, given, then-gives, as-read}
 use Rattle.semantics.proofs.Tests.{false-true, either, Every-at}
-use Rattle.semantics.proofs.Accepted.{SoundArc, SoundConjunct, SoundTransition}
+use Rattle.semantics.proofs.Accepted.{SoundExpression, SoundArc, SoundConjunct, SoundTransition}
 use Rattle.semantics.proofs.Partial.{member-append}
 use Rattle.semantics.proofs.Members.{at-member, map-at}
+use Rattle.semantics.proofs.Spans.{several-split, several-length}
 use Rattle.expression.specs.Skip as skip
 use Rattle.expression.proofs.Spelled.{HeadWord, headOfTree}
 use Rattle.expression.proofs.Laws.{expression-short, variables-flat, first-word, constant-alone}
 use Rattle.kinds.specs.Taken.{fitsKind}
 use Rattle.net.specs.Skim.{changed, outline, skimTransition, width}
-use Rattle.net.proofs.Skimming.{several-length, widths-at, skim-transition}
+use Rattle.net.proofs.Skimming.{widths-at, skim-transition}
 use Rattle.net.proofs.Located.{At, Parts, transition-parts}
-use Rattle.plans.specs.Fitness.{after, loneAt, loneFrom, matchAt, allBound, firstOf, solveAt, atMember, bindsAt, faultFrom, firstFault, faultAmong}
+use Rattle.plans.specs.Fitness.{after, loneAt, loneFrom, matchAt, allBound, firstOf, solveAt, atMember, bindsAt, faultFrom, faultAmong}
 
 -- ── A variable alone ──
 
@@ -90,26 +91,14 @@ lone-cons isBound (load a) es = refl
 
 -- the first of several, and the others
 several-first : {A : Type 0} (r : Reader A) (k at : ℕ) (x : A) (xs : List A) (next : ℕ) → several (suc k) r at ≡ read (x ∷ xs) next → (mid : ℕ) × (r at ≡ read x mid) × (several k r mid ≡ read xs next)
-unfolding several
-several-first {A} r k at x xs next e = first (r at) refl e
-  where
-    rest : (a : A) (mid : ℕ) → r at ≡ read a mid → (y : Reading (List A)) → several k r mid ≡ y → then y (λ as′ end. read (a ∷ as′) end) ≡ read (x ∷ xs) next → (mid : ℕ) × (r at ≡ read x mid) × (several k r mid ≡ read xs next)
-    rest a mid p (refused i j) q f = false-true (cc)
-    rest a mid p (read as′ end) q f =
-        let g : a ≡ x = cc in
-        let h : as′ ≡ xs = cc in
-        let i : end ≡ next = cc in
-        (mid, rw (← g) p, rw (← h, ← i) q)
+several-first {A} r k at x xs next e =
+    let s = several-split r k at (x ∷ xs) next e in
+    let w = s .whole in
+    let g : s .first ≡ x = cc in
+    let h : s .others ≡ xs = cc in
+    (s .mid, s .reads ∙ ap (λ (a : A). read a (s .mid)) g, s .rest ∙ ap (λ (l : List A). read l next) h)
 
-    first : (y : Reading A) → r at ≡ y → then y (λ a next. then (several k r next) (λ as′ end. read (a ∷ as′) end)) ≡ read (x ∷ xs) next → (mid : ℕ) × (r at ≡ read x mid) × (several k r mid ≡ read xs next)
-    first (refused i j) p f = false-true (cc)
-    first (read a mid) p f = rest a mid p (several k r mid) refl f
-
--- variables are below v
-abbrev Below : ℕ → Expression → Type 0
-Below v e = everyVariable (λ n. ltb n v) e ≡ true
-
-lone-from : (ws : List ℕ) (v : ℕ) (isBound : ℕ → Bool) (k at : ℕ) (es : List Expression) (next : ℕ) → several k (readExpression ws v) at ≡ read es next → Every (Below v) es → loneFrom ws v isBound k at ≡ loneUnbound isBound es
+lone-from : (ws : List ℕ) (v : ℕ) (isBound : ℕ → Bool) (k at : ℕ) (es : List Expression) (next : ℕ) → several k (readExpression ws v) at ≡ read es next → Every (SoundExpression v) es → loneFrom ws v isBound k at ≡ loneUnbound isBound es
 unfolding loneFrom loneUnbound
 lone-from ws v isBound zero at [] next r b = refl
 lone-from ws v isBound zero at (e ∷ es) next r b = let h = several-length (readExpression ws v) zero at (e ∷ es) next r in absurd (omega arith)
@@ -191,7 +180,7 @@ module _ (ws : List ℕ) (v from : ℕ) (k : ℕ → List ℕ) where
       by (binary o x y) r h = other (binary o x y) r (nine h)
       by (load x) r h = other (load x) r (nine h)
 
-match-at : (ws : List ℕ) (places : List Place) (v : ℕ) (isBound : ℕ → Bool) (a : Arc) → At (readArc ws places v) (λ (a : Arc). a .position) a → Every (Below v) (a .components) → matchAt ws (map width places) v isBound (a .position) ≡ cond (positiveConstant (a .coefficient)) (loneUnbound isBound (a .components)) []
+match-at : (ws : List ℕ) (places : List Place) (v : ℕ) (isBound : ℕ → Bool) (a : Arc) → At (readArc ws places v) (λ (a : Arc). a .position) a → Every (SoundExpression v) (a .components) → matchAt ws (map width places) v isBound (a .position) ≡ cond (positiveConstant (a .coefficient)) (loneUnbound isBound (a .components)) []
 unfolding matchAt
 match-at ws places v isBound a here b =
     let p = given (arc-parts ws places v (a .position)) (here .reads) in
@@ -261,7 +250,7 @@ equation-code k = by (eqb k 0) (eqb k 1) (eqb k 2)
     by false false true = refl
     by false false false = refl
 
-solve-at : (ws : List ℕ) (v : ℕ) (isBound : ℕ → Bool) (c : Conjunct) → At (readConjunct ws v) (λ (c : Conjunct). c .position) c → Below v (c .left) → Below v (c .right) → solveAt ws v isBound (c .position) ≡ solutionBinds (solution isBound c)
+solve-at : (ws : List ℕ) (v : ℕ) (isBound : ℕ → Bool) (c : Conjunct) → At (readConjunct ws v) (λ (c : Conjunct). c .position) c → SoundExpression v (c .left) → SoundExpression v (c .right) → solveAt ws v isBound (c .position) ≡ solutionBinds (solution isBound c)
 unfolding solveAt solution allBound
 solve-at ws v isBound c here bl br =
     let p = given (conjunct-parts ws v (c .position)) (here .reads) in
@@ -316,8 +305,4 @@ unfolding faultAmong plansFault
 net-fault ws places [] a s = refl
 net-fault ws places (t ∷ ts) a s =
     let r : skimTransition ws (map width places) (t .position) ≡ read (outline t) (a .0 .next) = sym (skim-transition ws places (t .position)) ∙ ap (changed outline) (a .0 .reads) in
-    rw (r, fault-at ws places t (transition-parts ws places (t .position) t (a .0 .next) (a .0 .reads)) (s .0), net-fault ws places ts (a .1) (s .1)) (by (planFault t [] (t .plan)))
-  where
-    by : (o : Option ℕ) → firstFault o (plansFault ts) ≡ firstOf′ o (plansFault ts)
-    by none = refl
-    by (some p) = refl
+    rw (r, fault-at ws places t (transition-parts ws places (t .position) t (a .0 .next) (a .0 .reads)) (s .0), net-fault ws places ts (a .1) (s .1))

@@ -13,7 +13,6 @@ use lib.ListN.{length, take, getD, List·getD-eq-default, drop-of-length-le}
 use lib.Seq.{slice-cons, length-take-le}
 use Rattle.semantics.specs.Lists.{every}
 use Rattle.semantics.specs.Word.{kind, payload}
-use Rattle.semantics.specs.Reading.{word}
 use Rattle.semantics.proofs.Tests.{false-true}
 use Rattle.expression.specs.declared.read.Skipped.{Skipped}
 use Rattle.expression.specs.declared.read.Skipped.the-variants.{Next, Refused}
@@ -21,9 +20,9 @@ use Rattle.expression.specs.Skip.{skipped, Skips}
 use Rattle.expression.proofs.Laws.{variablePasses}
 use Rattle.kinds.specs.declared.take.Taken.{Taken}
 use Rattle.kinds.specs.declared.take.Taken.the-variants.{Word, Refused as TakeRefused}
-use Rattle.kinds.specs.Taken.{fitsKind, taken, IsTaken}
+use Rattle.kinds.specs.Taken.{IsTaken}
 use Rattle.net.specs.Skim.{skimExpression}
-use Rattle.net.proofs.Structures.{next-fits}
+use Rattle.net.proofs.Structures.{word-told, next-fits}
 use Rattle.plans.specs.declared.bind.Bound.{Bound}
 use Rattle.plans.specs.Fitness.{loneAt, allBound, solvedAt, firstOf, solveAt}
 use Rattle.plans.specs.Plan.{marked, IsBound}
@@ -80,16 +79,13 @@ first-none [] ns b r s x q y = y
 first-none (m ∷ ms) ns b r s x q y = false-true (sym q ∙ x .some)
 
 module _ (ws : List ℕ) (v at : ℕ) (b : Bound) {t : Taken} (w : IsTaken ws at 6 t) where
-  word-is : {u : Taken} → t ≡ u → word ws 6 (fitsKind 6) at ≡ taken at u
-  word-is e = sym (w .same) ∙ ap (taken at) e
-
   pub solve-refused : {m s : ℕ} → t ≡ TakeRefused m s → IsBound b (solveAt ws v (marked (b .marks)) at) b
   unfolding solveAt
-  solve-refused e = rw (word-is e) (bound-none b)
+  solve-refused e = rw (word-told w e) (bound-none b)
 
   pub solve-other : {k : ℕ} → t ≡ Word k → (k ≡ 0 → ⊥) → IsBound b (solveAt ws v (marked (b .marks)) at) b
   unfolding solveAt
-  solve-other {k} e q = rw (word-is e, ne-eqb k 0 q) (bound-none b)
+  solve-other {k} e q = rw (word-told w e, ne-eqb k 0 q) (bound-none b)
 
   module _ {k : ℕ} (e : t ≡ Word k) (z : k ≡ 0) {s : Skipped} (x : skipped s ≡ skimExpression ws v (at + 1)) where
     left-is : {u : Skipped} → s ≡ u → skimExpression ws v (at + 1) ≡ skipped u
@@ -97,7 +93,7 @@ module _ (ws : List ℕ) (v at : ℕ) (b : Bound) {t : Taken} (w : IsTaken ws at
 
     pub left-refused : {m p : ℕ} → s ≡ Refused m p → IsBound b (solveAt ws v (marked (b .marks)) at) b
     unfolding solveAt
-    left-refused d = rw (word-is e, z, left-is d) (bound-none b)
+    left-refused d = rw (word-told w e, z, left-is d) (bound-none b)
 
     module _ {right : ℕ} (d : s ≡ Next right) {u : Skipped} (y : skipped u ≡ skimExpression ws v right) where
       right-is : {o : Skipped} → u ≡ o → skimExpression ws v right ≡ skipped o
@@ -105,16 +101,16 @@ module _ (ws : List ℕ) (v at : ℕ) (b : Bound) {t : Taken} (w : IsTaken ws at
 
       pub right-refused : {m p : ℕ} → u ≡ Refused m p → IsBound b (solveAt ws v (marked (b .marks)) at) b
       unfolding solveAt
-      right-refused f = rw (word-is e, z, left-is d, right-is f) (bound-none b)
+      right-refused f = rw (word-told w e, z, left-is d, right-is f) (bound-none b)
 
       module _ {end : ℕ} (f : u ≡ Next end) {r : Bound} (g : IsBound b (solvedAt ws v (marked (b .marks)) (at + 1) right end) r) where
         pub solve-first : b .some ≡ false → r .some ≡ true → IsBound b (solveAt ws v (marked (b .marks)) at) r
         unfolding solveAt
-        solve-first n q = rw (word-is e, z, left-is d, right-is f) (first-some _ _ b r n g q)
+        solve-first n q = rw (word-told w e, z, left-is d, right-is f) (first-some _ _ b r n g q)
 
         pub solve-second : {o : Bound} → r .some ≡ false → IsBound b (solvedAt ws v (marked (b .marks)) right (at + 1) right) o → IsBound b (solveAt ws v (marked (b .marks)) at) o
         unfolding solveAt
-        solve-second {o} q i = rw (word-is e, z, left-is d, right-is f) (first-none _ _ b r o g q i)
+        solve-second {o} q i = rw (word-told w e, z, left-is d, right-is f) (first-none _ _ b r o g q i)
 
 pub skip-in : (ws : List ℕ) (at : ℕ) {s : Skipped} {p : ℕ} → s ≡ Next p → Skips ws at s → p ≤ length ws
 skip-in ws at e k = subst (Skips ws at) e k .in-words

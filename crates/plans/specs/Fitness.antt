@@ -12,7 +12,7 @@ use Rattle.semantics.specs.Word.{between}
 use Rattle.semantics.specs.Reading.{Reading, read, refused, word}
 use Rattle.semantics.specs.Net.{Sort, match, solve, range, Element}
 use Rattle.semantics.specs.ReadNet.{readElement}
-use Rattle.semantics.specs.Plan.{member, everyBelow, fitOr}
+use Rattle.semantics.specs.Plan.{member, everyBelow, fitOr, firstOf as firstFault}
 use Rattle.expression.proofs.Laws.{variablePasses}
 use Rattle.kinds.specs.Taken.{fitsKind}
 use Rattle.net.specs.Skim.{skimExpression, Outline, skimTransition}
@@ -87,10 +87,6 @@ faultIn ws widths at (refused n p) = none
 
 abbrev pub transitionFault : List ℕ → List ℕ → ℕ → Option ℕ
 transitionFault ws widths at = faultIn ws widths at (skimTransition ws widths at)
-
-abbrev pub firstFault : Option ℕ → Option ℕ → Option ℕ
-firstFault (some p) q = some p
-firstFault none q = q
 
 -- the first fault of the transitions at these positions
 unfoldable pub faultAmong : List ℕ → List ℕ → List ℕ → Option ℕ

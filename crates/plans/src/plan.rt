@@ -15,8 +15,8 @@ ghost use mathlib.Core.Bool.{false, cond};
 ghost use mathlib.Core.Option.{none, some};
 ghost use Prim.Native.Nat.{_≤_};
 ghost use lib.ListN.{length};
-ghost use Rattle.semantics.specs.Plan.{everyBelow};
-ghost use Rattle.plans.specs.Fitness.{planParts, bindsAt, faultFrom, firstFault};
+ghost use Rattle.semantics.specs.Plan.{everyBelow, firstOf};
+ghost use Rattle.plans.specs.Fitness.{planParts, bindsAt, faultFrom};
 ghost use Rattle.plans.specs.Plan.{marked, fresh, IsBound, sorted, fault, IsReviewed, AreReviewed};
 
 // The variables that an element of a transition binds, whose input arcs and conjuncts begin at these positions.
@@ -152,7 +152,7 @@ fn read_plan(words: &[u32], widths: &[usize], at: usize) -> Reviewed
 
 // The first of two faults.
 fn first_of(a: Fault, b: Fault) -> Fault
-    ensures { λ r. ⌜ fault r ≡ firstFault (fault a) (fault b) ⌝ }
+    ensures { λ r. ⌜ fault r ≡ firstOf (fault a) (fault b) ⌝ }
 {
     match a {
         Fault::At(p) => Fault::At(p),

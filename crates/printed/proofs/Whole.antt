@@ -5,7 +5,7 @@
 use mathlib.Core.Path.{_≡_, refl, sym, ap, _∙_}
 use mathlib.Core.Logic.{_⊎_, inl, inr}
 use mathlib.Core.Bool.{Bool, true, false, cond}
-use mathlib.Core.List.{List, [], _∷_, _++_, flatMap, append-nil, append-assoc}
+use mathlib.Core.List.{List, [], _∷_, _++_, flatMap, append-nil}
 use Prim.Native.Nat.{ℕ, zero, suc, _+_, _*_, _/_, _%_, _^_, _≤_, _<_, min}
 use native.Mathlib.Nat.{suc-mul, add-le-add}
 use native.Mathlib.Omega.{arith}
@@ -29,6 +29,7 @@ use Rattle.semantics.specs.Run.{menu, Offer, offered, withheld, offer}
 use Rattle.semantics.specs.Calls.{wholeWords}
 use Rattle.semantics.specs.Print.{digitsIn, decimal, signedDecimal, afterFirst, line, badInput, fields, offerText, menusText, markingText, netText, printed}
 use Rattle.semantics.proofs.Tests.{either, and-right}
+use Rattle.semantics.proofs.Tuples.{flatMap-append}
 use Rattle.semantics.proofs.Accepted.{SoundTransition, front-sound}
 use Rattle.semantics.proofs.Offer.{offer-made}
 use Rattle.text.proofs.Digits.{tenth}
@@ -44,11 +45,6 @@ joined ts = flatMap (λ t. t) ts
 joined-one : (t : List ℕ) → t ≡ joined (t ∷ [])
 unfolding flatMap
 joined-one t = sym (append-nil t)
-
-joined-append : (ss ts : List (List ℕ)) → joined (ss ++ ts) ≡ joined ss ++ joined ts
-unfolding flatMap
-joined-append [] ts = refl
-joined-append (s ∷ ss) ts = ap (λ (l : List ℕ). s ++ l) (joined-append ss ts) ∙ sym (append-assoc s (joined ss) (joined ts))
 
 menus-joined : (net : Net) (m : Counts) (i : ℕ) (ts : List Transition) → menusText net m i ts ≡ joined (menuTexts net m i ts)
 unfolding menusText menuTexts flatMap
@@ -80,7 +76,7 @@ first-joined bytes zero h = refl
 first-joined bytes (suc n) h =
     ap (λ (l : List ℕ). l ++ partText bytes n) (first-joined bytes n (omega arith))
     ∙ ap (λ (l : List ℕ). joined (take n (texts bytes)) ++ l) (joined-one (partText bytes n))
-    ∙ sym (ap joined (take-suc (texts bytes) n [] h) ∙ joined-append (take n (texts bytes)) (partText bytes n ∷ []))
+    ∙ sym (ap joined (take-suc (texts bytes) n [] h) ∙ flatMap-append (λ t. t) (take n (texts bytes)) (partText bytes n ∷ []))
 
 -- the parts from the first to the last are the text
 pub parts-whole : (bytes : List ℕ) → firstParts bytes (parts bytes) ≡ printed bytes

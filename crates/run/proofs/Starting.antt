@@ -18,6 +18,7 @@ use Rattle.semantics.specs.Calls.{Start, markingIn, start}
 use Rattle.semantics.proofs.Tests.{false-true, either}
 use Rattle.expression.specs.declared.read.Skipped.the-variants.{Next, Refused}
 use Rattle.expression.specs.Skip.{forget, skipped}
+use Rattle.expression.proofs.Laws.{passed-read, passed-refused}
 use Rattle.net.specs.declared.index.NetIndex.{NetIndex}
 use Rattle.net.specs.Skim.{changed, netOutline}
 use Rattle.net.specs.Index.{netRead}
@@ -29,7 +30,7 @@ use Rattle.marking.specs.declared.pick.FirstPick.{FirstPick}
 use Rattle.marking.specs.declared.pick.FirstPick.the-variants.{At, Nothing}
 use Rattle.marking.specs.Marked.{markingRead, IsMarkingIn}
 use Rattle.marking.specs.Picks.{firstPick}
-use Rattle.occurrence.proofs.Situations.{next-refused, passed-refused, passed-read}
+use Rattle.occurrence.proofs.Situations.{next-refused}
 use Rattle.run.specs.Start.{IsStart}
 
 -- a refusal is all that is told

@@ -1,12 +1,9 @@
 -- Cost and rows of a plan by its first element: they are those of its tries, one after the other.
-use mathlib.Core.Path.{_≡_, refl, sym, ap, _∙_}
+use mathlib.Core.Path.{_≡_, refl, ap, _∙_}
 use mathlib.Core.Bool.{Bool, true, false}
-use mathlib.Core.List.{List, [], _∷_, _++_, map, List·Memᴰ, List·Memᴰ·head, List·Memᴰ·tail}
+use mathlib.Core.List.{List, [], _∷_, _++_, map, map-append}
 use mathlib.Core.Option.{Option, none, some}
-use Prim.Native.Nat.{ℕ, zero, suc, _<_}
-use native.Mathlib.Omega.{arith}
 use lib.IntN.{ℤ}
-use lib.ListN.{length, getD}
 use Rattle.semantics.specs.Lists.{consIf, select}
 use Rattle.semantics.specs.Expression.{houseTable}
 use Rattle.semantics.specs.Net.{Element}
@@ -26,10 +23,6 @@ select-append t (x ∷ xs) ys = by (t x) (select-append t xs ys)
     by : (u : Bool) → select t (xs ++ ys) ≡ select t xs ++ select t ys → consIf u x (select t (xs ++ ys)) ≡ consIf u x (select t xs) ++ select t ys
     by true e = ap (λ l. x ∷ l) e
     by false e = e
-
-map-append : {A B : Type 0} (f : A → B) (xs ys : List A) → map f (xs ++ ys) ≡ map f xs ++ map f ys
-map-append f [] ys = refl
-map-append f (x ∷ xs) ys = ap (λ l. f x ∷ l) (map-append f xs ys)
 
 rows-gather : (t : List ℤ → Bool) (f : Partial → List Partial) (os : List (Option Partial)) → select t (map bindingOf (gather f os)) ≡ rowsOver (λ p. select t (map bindingOf (f p))) os
 unfolding gather rowsOver select
@@ -58,9 +51,3 @@ module _ (s : Situation) where
   pub rows-leaf : (p : Partial) → rowsFrom s [] p ≡ consIf (isEnabled houseTable (s .transition) (s .counts) (bindingOf p)) (bindingOf p) []
   unfolding leavesFrom select
   rows-leaf p = refl
-
--- a member by its number
-pub at-number : {A : Type 0} (l : List A) (i : ℕ) (d x : A) → i < length l → getD l i d ≡ x → List·Memᴰ x l
-at-number [] i d x h e = absurd (omega arith)
-at-number (y ∷ l) zero d x h e = List·Memᴰ·head (sym e)
-at-number (y ∷ l) (suc i) d x h e = List·Memᴰ·tail (at-number l i d x (omega arith) e)

@@ -78,9 +78,6 @@ outcome-on : (w : ℕ) (s : Progress) (m : List ℕ) → s .spent ≡ false → 
 outcome-on w s m e = rw e
 
 module _ {w most budget : ℕ} {f : Partial → ℕ} {g : Partial → List (List ℤ)} {os : List (Option Partial)} {n₀ : ℕ} {m₀ : List ℕ} {t₀ : ℕ} {l₀ : Listing} {i : ℕ} {cur : Progress} {menu : List ℕ} (T : Trying w most budget f g os n₀ m₀ t₀ l₀ i cur menu) where
-  listing : Listing
-  listing = listingOf w (cur .rows) (cur .full) menu
-
   pub ended-all : length os ≤ i → Ended w most budget n₀ m₀ t₀ l₀ (countTries f os) (rowsOver g os) cur menu
   unfolding countTries rowsOver addAll
   ended-all h =

@@ -18,6 +18,7 @@ use Rattle.semantics.specs.Order.{inRanges}
 use Rattle.semantics.specs.Enabling.{isEnabled}
 use Rattle.semantics.specs.Tries.{Partial, bindingOf, tries, countTries}
 use Rattle.semantics.specs.Calls.{Situation}
+use Rattle.semantics.proofs.Members.{number-member}
 use Rattle.semantics.proofs.Leaves.{Sound, sound-fits, sound-next, sound-leaf}
 use Rattle.semantics.proofs.Menu.{binding-full}
 use Rattle.occurrence.specs.Answers.{IsEnabledAt}
@@ -35,7 +36,7 @@ use Rattle.search.specs.Search.{costFrom, rowsFrom, Unspent, Ended, IsLe
 use Rattle.search.proofs.Trying.{rowsOver}
 use Rattle.search.proofs.Worlds.{next-element, as-many}
 use Rattle.search.proofs.Values.{slots-values, enabled-full}
-use Rattle.search.proofs.Steps.{cost-step, rows-step, cost-leaf, rows-leaf, at-number}
+use Rattle.search.proofs.Steps.{cost-step, rows-step, cost-leaf, rows-leaf}
 
 -- the same, of costs and rows that are equal
 pub ended-same : {w most budget n : ℕ} {m : List ℕ} {t : ℕ} {l : Listing} {cost : ℕ} {rows : List (List ℤ)} {s′ : Progress} {m′ : List ℕ} {cost′ : ℕ} {rows′ : List (List ℤ)} → cost′ ≡ cost → rows′ ≡ rows → Ended w most budget n m t l cost rows s′ m′ → Ended w most budget n m t l cost′ rows′ s′ m′
@@ -96,7 +97,7 @@ module _ {ws ps : List ℕ} {position v : ℕ} {inputs conjuncts elements ms beg
         rows = ap (λ (es : List Element). rowsFrom s es (partialOf v b)) (n .ahead) ∙ rows-step s (n .element) (drop (d + 1) (s .transition .plan)) (partialOf v b) ∙ ap (rowsOver (rowsFrom s (drop (d + 1) (s .transition .plan)))) o;
         count = ap length (sym u) ∙ tries-length ws (position + 1) v ms step (partialOf v b);
         same = u;
-        sound = λ q i l x. sound-next houseTable (s .net) (s .counts) S′ q (subst (λ (os : List (Option Partial)). List·Memᴰ (some q) os) (sym o) (at-number (tries houseTable (s .net) (s .transition) (s .counts) (sorted (step .element .sort)) (partialOf v b)) i none (some q) l x));
+        sound = λ q i l x. sound-next houseTable (s .net) (s .counts) S′ q (subst (λ (os : List (Option Partial)). List·Memᴰ (some q) os) (sym o) (number-member (tries houseTable (s .net) (s .transition) (s .counts) (sorted (step .element .sort)) (partialOf v b)) i none (some q) l x));
         safe = A .safe;
         ready = arrival-ready W A;
         knows = A .knows;

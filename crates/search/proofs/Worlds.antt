@@ -12,10 +12,10 @@ use Rattle.semantics.specs.ReadNet.{sortOf, readElement}
 use Rattle.semantics.specs.Calls.{Situation}
 use Rattle.semantics.proofs.Readers.{given}
 use Rattle.semantics.proofs.Spans.{then-read}
-use Rattle.semantics.proofs.Accepted.{SoundTransition, transition-sound}
 use Rattle.net.proofs.Located.{At, transition-parts}
 use Rattle.net.proofs.Placed.{word-here, variables-fit}
 use Rattle.arrivals.specs.World.{World}
+use Rattle.arrivals.proofs.Tries.{sound}
 
 -- an element that was read: its sort is in the word at its position
 pub record ElementRead (ws : List ℕ) (at : ℕ) (e : Element) : Type 0 where
@@ -45,14 +45,11 @@ next-there ws (e ∷ es) h (suc d) l =
     record { element = n .element; ahead = n .ahead ∙ ap (λ (j : ℕ). n .element ∷ drop j (e ∷ es)) k; there = n .there }
 
 module _ {ws ps : List ℕ} {position v : ℕ} {inputs conjuncts elements ms begins : List ℕ} {s : Situation} (W : World ws ps position v inputs conjuncts elements ms begins s) where
-  sound : SoundTransition (s .net .places) (s .transition)
-  sound = transition-sound ws (s .net .places) position (s .transition) (W .after) (W .there)
-
   pub few-variables : v ≤ 8
-  few-variables = rw (W .many) (sound .few-variables)
+  few-variables = rw (W .many) (sound W .few-variables)
 
   pub few-inputs : length inputs ≤ 8
-  few-inputs = let l = ap length (W .arcs) ∙ length-map (s .transition .inputs) (λ (a : Arc). a .position) in let n = sound .few-inputs in omega arith
+  few-inputs = let l = ap length (W .arcs) ∙ length-map (s .transition .inputs) (λ (a : Arc). a .position) in let n = sound W .few-inputs in omega arith
 
   pub ranges-fit : position + 1 + v ≤ length ws
   ranges-fit = rw (W .many) (variables-fit ws (s .net .places) position (s .transition) (W .after) (W .there))
@@ -61,7 +58,7 @@ module _ {ws ps : List ℕ} {position v : ℕ} {inputs conjuncts elements ms beg
   as-many = ap length (W .plan) ∙ length-map (s .transition .plan) (λ (e : Element). e .position)
 
   pub few-elements : length elements ≤ 8
-  few-elements = let a = as-many in let n = sound .few-elements in omega arith
+  few-elements = let a = as-many in let n = sound W .few-elements in omega arith
 
   pub next-element : (d : ℕ) → d < length elements → Next ws elements (s .transition .plan) d
   next-element d l =

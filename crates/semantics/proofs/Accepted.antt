@@ -129,11 +129,11 @@ module _ (ws : List ℕ) (v : ℕ) where
 both : (a b : Bool) → (a && b) ≡ true → (a ≡ true) × (b ≡ true)
 both a b h = (and-left a b h, and-right a b h)
 
-between-true : (low high n : ℕ) → between low high n ≡ true → (low ≤ n) × (n ≤ high)
+pub between-true : (low high n : ℕ) → between low high n ≡ true → (low ≤ n) × (n ≤ high)
 between-true low high n h = let p = both (leb low n) (leb n high) h in (leb-true low n (p .0), leb-true n high (p .1))
 
 -- the counts of a TRANSITION word
-few-counts : (o : Bool) (a b c d e : ℕ) → (o && leb a 8 && leb b 8 && leb c 8 && leb d 8 && leb e 8) ≡ true → (a ≤ 8) × (b ≤ 8) × (c ≤ 8) × (d ≤ 8) × (e ≤ 8)
+pub few-counts : (o : Bool) (a b c d e : ℕ) → (o && leb a 8 && leb b 8 && leb c 8 && leb d 8 && leb e 8) ≡ true → (a ≤ 8) × (b ≤ 8) × (c ≤ 8) × (d ≤ 8) × (e ≤ 8)
 few-counts o a b c d e h =
     let to-e = both (o && leb a 8 && leb b 8 && leb c 8 && leb d 8) (leb e 8) h in
     let to-d = both (o && leb a 8 && leb b 8 && leb c 8) (leb d 8) (to-e .0) in

@@ -3,7 +3,7 @@
 -- making a reader, so that the law of a structure is written as its reader is, line by line. Rests on Accepted and Spans.
 use mathlib.Core.Path.{_≡_, refl, sym, ap, _∙_}
 use mathlib.Core.Bool.{Bool, true, false, cond, _&&_}
-use mathlib.Core.List.{List, [], _∷_}
+use mathlib.Core.List.{List}
 use mathlib.Core.Option.{Option, none, some}
 use Prim.Native.Nat.{ℕ, zero, suc, _+_, _%_, _≤_, _<_}
 use native.Mathlib.Omega.{arith}
@@ -19,7 +19,7 @@ use Rattle.semantics.specs.Net.{Place, Net, rangesAt}
 use Rattle.semantics.specs.ReadNet.{Head, constantHead, variableHead, binaryHead, loadHead, operatorHead, headOf, headAt, operands, expressionIn, readExpression, readRange, readPlace, readArc, readConjunct, readElement, transitionWord, readTransition, netWord, readNet}
 use Rattle.semantics.specs.Plan.{plansFault, withPlans, acceptFront, acceptNet}
 use Rattle.semantics.proofs.Accepted.{front-read, accepted-read}
-use Rattle.semantics.proofs.Spans.{refused-read, read-same, then-read, word-read, drop-first}
+use Rattle.semantics.proofs.Spans.{refused-read, read-same, then-read, several-length, word-read, drop-first}
 
 -- ── Readings ──
 
@@ -171,10 +171,6 @@ module _ {end : ℕ} where
   kept-read {a = a} {next} (kept {a = b} {next = n} h f) e g = let s = read-same b a n next e in let m = s .1 in rw (← s .0, ← s .1) (f (omega arith))
   kept-read {a = a} {next} (refusal {n = n} {p = p} h) e g = refused-read n p a next e
 
-planned : (fault : Option ℕ) (net a : Net) (next mid : ℕ) → withPlans fault net mid ≡ read a next → withPlans fault a next ≡ read a next
-planned none net a next mid e = refl
-planned (some p) net a next mid e = refused-read 5 p a next e
-
 module _ (ws : List ℕ) (net : Net) (next : ℕ) (e : acceptFront ws ≡ read net next) where
   cut-read : readNet (take next ws) 0 ≡ read net next
   cut-read = kept-read (net-kept ws next 0) (front-read ws net next e) (omega arith)
@@ -206,14 +202,6 @@ front-refused ws n p e = by (net-kept ws 0 0) e
 
 -- ── The number of transitions ──
 
-several-length : {A : Type 0} (n : ℕ) (r : Reader A) (at : ℕ) (xs : List A) (next : ℕ) → several n r at ≡ read xs next → length xs ≡ n
-unfolding several
-several-length zero r at xs next e = ap length (sym (read-same [] xs at next e .0))
-several-length (suc n) r at xs next e =
-    then-read (r at) (λ a mid. then (several n r mid) (λ as′ last. read (a ∷ as′) last)) xs next e λ a mid p q.
-    then-read (several n r mid) (λ as′ last. read (a ∷ as′) last) xs next q λ as′ last p′ q′.
-    ap length (sym (read-same (a ∷ as′) xs last next q′ .0)) ∙ ap suc (several-length n r mid as′ last p′)
-
 -- the first word says how many transitions there are
 pub record Headed (ws : List ℕ) (net : Net) : Type 0 where
   pub some-word : 0 < length ws
@@ -227,7 +215,7 @@ headed ws net next h =
     then-read (several (bits 0 7 w) (readTransition ws ps) b) _ net next q′ λ ts c r s.
     let f = word-read ws 1 netWord 0 w a p in
     let g = drop-first ws 0 (f .0) _ (f .1 .split) in
-    let l = several-length (bits 0 7 w) (readTransition ws ps) b ts c r in
+    let l = several-length (readTransition ws ps) (bits 0 7 w) b ts c r in
     let m : length (net .transitions) ≡ length ts = ap (λ (n : Net). length (n .transitions)) (sym (read-same _ net c next s .0)) in
     let u = f .3 in
     let v = g .1 in

@@ -4,7 +4,7 @@
 use mathlib.Core.Path.{_≡_, refl, sym, ap, _∙_, subst}
 use mathlib.Core.Logic.{_⊎_, inl, inr}
 use mathlib.Core.Bool.{Bool, true, false, _&&_}
-use mathlib.Core.List.{List, [], _∷_, _++_, map, flatMap, append-nil, append-assoc, List·Memᴰ, List·Memᴰ·head, List·Memᴰ·tail, List·Memᴰ·not-nil, List·Memᴰ·eq-of-singleton, Memᴰ·cast, Memᴰ·append-left, Memᴰ·append-right, List·Memᴰ·append-cases}
+use mathlib.Core.List.{List, [], _∷_, _++_, map, flatMap, append-nil, List·Memᴰ, List·Memᴰ·head, List·Memᴰ·tail, List·Memᴰ·not-nil, List·Memᴰ·eq-of-singleton, Memᴰ·cast, Memᴰ·append-left, Memᴰ·append-right, List·Memᴰ·append-cases}
 use Prim.Native.Nat.{ℕ, zero, suc, _+_, _≤_, _<_}
 use native.Mathlib.Omega.{arith}
 use borrow.Author.Tests.{eqb-true, eq-eqb, lt-ltb}
@@ -19,7 +19,7 @@ use Rattle.semantics.specs.Order.{sameTuple, before, Rising, tuples, inR
 use Rattle.semantics.specs.Marking.{Entry, key, Counts, Proper, countsOf, entryWords, wordsFrom, markingWords}
 use Rattle.semantics.proofs.Tests.{either, and-left, and-right, and-both, cond-true, cond-false, tuple-same, tuple-refl, Every-at, Every-of}
 use Rattle.semantics.proofs.Order.{before-first, before-rest, before-irrefl, rising-append, rising-unique}
-use Rattle.semantics.proofs.Tuples.{flatMap-in, in-flatMap, tuples-in, in-tuples, tuples-rise}
+use Rattle.semantics.proofs.Tuples.{flatMap-in, in-flatMap, flatMap-append, tuples-in, in-tuples, tuples-rise}
 
 -- an entry's place in the order
 abbrev pub entryKey : Entry → List ℤ
@@ -131,7 +131,7 @@ counts-proper net es r g = record {
 -- ── Entries of counts ──
 
 -- the entry of a place and colour with a count, none for 0
-entryOf : ℕ → List ℤ → ℕ → List Entry
+pub entryOf : ℕ → List ℤ → ℕ → List Entry
 entryOf p c zero = []
 entryOf p c (suc n) = record { place = p; count = suc n; colour = c } ∷ []
 
@@ -144,12 +144,7 @@ entriesFrom p [] m = []
 entriesFrom p (q ∷ qs) m = entriesAt p m (tuples (q .ranges)) ++ entriesFrom (suc p) qs m
 
 -- the words of all are the words of each
-flatMap-append : {A B : Type 0} (f : A → List B) (xs ys : List A) → flatMap f (xs ++ ys) ≡ flatMap f xs ++ flatMap f ys
-unfolding flatMap
-flatMap-append f [] ys = refl
-flatMap-append f (x ∷ xs) ys = rw (flatMap-append f xs ys) (sym (append-assoc (f x) (flatMap f xs) (flatMap f ys)))
-
-entryOf-words : (p : ℕ) (c : List ℤ) (n : ℕ) → wordsOf (entryOf p c n) ≡ entryWords p c n
+pub entryOf-words : (p : ℕ) (c : List ℤ) (n : ℕ) → wordsOf (entryOf p c n) ≡ entryWords p c n
 unfolding flatMap entryOf entryWords
 entryOf-words p c zero = refl
 entryOf-words p c (suc n) = append-nil (tokenWord p (suc n) ∷ map valueWord c)
@@ -172,14 +167,14 @@ record Listed (m : Counts) (p : ℕ) (qs : List Place) (e : Entry) (i : ℕ) : T
   count : e .count ≡ m (e .place) (e .colour)
   some : 1 ≤ e .count
 
-entryOf-in : (p : ℕ) (c : List ℤ) (n : ℕ) (e : Entry) → List·Memᴰ e (entryOf p c n) → (e .place ≡ p) × (e .colour ≡ c) × (e .count ≡ n) × (1 ≤ n)
+pub entryOf-in : (p : ℕ) (c : List ℤ) (n : ℕ) (e : Entry) → List·Memᴰ e (entryOf p c n) → (e .place ≡ p) × (e .colour ≡ c) × (e .count ≡ n) × (1 ≤ n)
 unfolding entryOf
 entryOf-in p c zero e k = absurd (List·Memᴰ·not-nil k)
 entryOf-in p c (suc n) e k =
     let q = List·Memᴰ·eq-of-singleton k in
     (ap (λ (d : Entry). d .place) q, ap (λ (d : Entry). d .colour) q, ap (λ (d : Entry). d .count) q, omega arith)
 
-in-entryOf : (p : ℕ) (c : List ℤ) (n : ℕ) (e : Entry) → e .place ≡ p → e .colour ≡ c → e .count ≡ n → 1 ≤ n → List·Memᴰ e (entryOf p c n)
+pub in-entryOf : (p : ℕ) (c : List ℤ) (n : ℕ) (e : Entry) → e .place ≡ p → e .colour ≡ c → e .count ≡ n → 1 ≤ n → List·Memᴰ e (entryOf p c n)
 unfolding entryOf
 in-entryOf p c zero e x y z h = absurd (omega arith)
 in-entryOf p c (suc n) e x y z h = List·Memᴰ·head (entry-path e (record { place = p; count = suc n; colour = c }) x z y)
@@ -218,7 +213,7 @@ listed-entries m p (q ∷ qs) e zero l =
 listed-entries m p (q ∷ qs) e (suc i) l =
     Memᴰ·append-right (entriesAt p m (tuples (q .ranges))) (listed-entries m (suc p) qs e i (record { inside = omega arith; place = omega arith; colour = l .colour; count = l .count; some = l .some }))
 
-entryOf-rises : (p : ℕ) (c : List ℤ) (n : ℕ) → Rising entryKey (entryOf p c n)
+pub entryOf-rises : (p : ℕ) (c : List ℤ) (n : ℕ) → Rising entryKey (entryOf p c n)
 unfolding entryOf
 entryOf-rises p c zero = tt
 entryOf-rises p c (suc n) = (tt, tt)

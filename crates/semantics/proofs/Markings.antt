@@ -9,7 +9,7 @@ use mathlib.Core.List.{List, [], _∷_, _++_, map, flatMap, append-nil, List·Me
 use Prim.Native.Nat.{ℕ, zero, suc, _+_, _≤_, _<_}
 use native.Mathlib.Omega.{arith}
 use lib.IntN.{ℤ}
-use lib.ListN.{length, drop, length-append}
+use lib.ListN.{length, length-append}
 use lib.Seq.{drop-length}
 use Rattle.semantics.specs.Refusal.{badMarking, mostWords}
 use Rattle.semantics.specs.Lists.{Every}
@@ -21,25 +21,20 @@ use Rattle.semantics.specs.Enabling.{Flow, total, effect, AllMove, Fits,
 use Rattle.semantics.specs.Expression.{Environment, bound}
 use Rattle.semantics.proofs.Tests.{Every-at, Every-of}
 use Rattle.semantics.proofs.Entries.{entryKey, Good, wordsOfEntry, wordsOf, counts-some, counts-proper, entriesOf, entriesOf-words, entriesOf-rise, entriesOf-good, entries-again, counts-again}
-use Rattle.semantics.proofs.Spans.{numbered-read, Narrow}
-use Rattle.semantics.proofs.ReadEntries.{Accepted, entries-read, entries-reads}
+use Rattle.semantics.proofs.Spans.{Narrow}
+use Rattle.semantics.proofs.ReadEntries.{Accepted, whole-read, whole-words, entries-reads}
 
 -- ── Words to counts ──
 
 marking-accepted : (net : Net) (ws : List ℕ) (es : List Entry) (next : ℕ) → readMarking net ws ≡ read es next → Accepted (net .places) ws [] 0 es next
 unfolding readMarking
-marking-accepted net ws es next r =
-    entries-read (length ws) (net .places) ws [] 0 es next (omega arith) (numbered-read badMarking (readEntries (length ws) (net .places) ws [] 0) es next r)
-
--- an accepted marking is the words of its entries
-accepted-words : (net : Net) (ws : List ℕ) (es : List Entry) (next : ℕ) → Accepted (net .places) ws [] 0 es next → ws ≡ wordsOf es
-accepted-words net ws es next a = a .span .split ∙ ap (λ (i : ℕ). wordsOf es ++ drop i ws) (a .ended) ∙ ap (λ (l : List ℕ). wordsOf es ++ l) (drop-length ws) ∙ append-nil (wordsOf es)
+marking-accepted net ws es next r = whole-read (net .places) ws es next r
 
 -- words to counts to words
 pub marking-words : (net : Net) (ws : List ℕ) (es : List Entry) (next : ℕ) → readMarking net ws ≡ read es next → markingWords net (countsOf es) ≡ ws
 marking-words net ws es next r =
     let a = marking-accepted net ws es next r in
-    sym (entriesOf-words net (countsOf es)) ∙ ap wordsOf (entries-again net es (a .rises) (a .good)) ∙ sym (accepted-words net ws es next a)
+    sym (entriesOf-words net (countsOf es)) ∙ ap wordsOf (entries-again net es (a .rises) (a .good)) ∙ sym (whole-words (net .places) ws es next a)
 
 -- two accepted markings with the same counts are the same words
 pub marking-unique : (net : Net) (ws vs : List ℕ) (es fs : List Entry) (i j : ℕ) → readMarking net ws ≡ read es i → readMarking net vs ≡ read fs j → ((p : ℕ) (c : List ℤ) → countsOf es p c ≡ countsOf fs p c) → ws ≡ vs

@@ -18,7 +18,7 @@ use Rattle.semantics.specs.Expression.{Expression, constant, variable, b
 use Rattle.semantics.specs.Order.{inRanges}
 use Rattle.semantics.specs.Plan.{member, everyBelow}
 use Rattle.semantics.specs.Tries.{Partial, partly, present, isBoundIn}
-use Rattle.semantics.proofs.Members.{none-some}
+use Rattle.semantics.proofs.Members.{none-some, replicate-same}
 use Rattle.semantics.proofs.Tests.{false-true, either, and-left, and-right}
 
 -- ── Variables bound so far ──
@@ -98,9 +98,7 @@ agrees-set b p n z h e a = record { same = λ k y q. by k y (set-cases p n z k y
 
 -- nothing is bound in the empty binding
 pub nothing-at : (v n : ℕ) → partly (replicate v none) n ≡ none
-nothing-at zero n = refl
-nothing-at (suc v) zero = refl
-nothing-at (suc v) (suc n) = nothing-at v n
+nothing-at v n = replicate-same v n none
 
 pub agrees-empty : (b : List ℤ) (v : ℕ) → Agrees b (replicate v none)
 agrees-empty b v = record { same = λ n z e. none-some (sym (nothing-at v n) ∙ e) }

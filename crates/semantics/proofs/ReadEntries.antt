@@ -1,18 +1,19 @@
 -- Reading a marking's entries: what is accepted are good entries that rise by place and colour, whose words are the words read; and the
 -- words of such entries are accepted. Each way goes entry by entry, the key of the last one being handed on.
-use mathlib.Core.Path.{_≡_, refl, _∙_}
+use mathlib.Core.Path.{_≡_, refl, ap, _∙_}
 use mathlib.Core.Bool.{Bool, true, false, cond, _&&_}
-use mathlib.Core.List.{List, [], _∷_, _++_, map, flatMap, append-assoc}
+use mathlib.Core.List.{List, [], _∷_, _++_, map, flatMap, append-nil, append-assoc}
 use Prim.Native.Nat.{ℕ, zero, suc, _+_, _≤_, _<_, _^_}
 use native.Mathlib.Omega.{arith}
 use borrow.Author.Tests.{leb-true, le-leb, lt-leb, lt-ltb, ltb-true}
 use lib.Dec.{leb, ltb}
 use lib.IntN.{ℤ}
 use lib.ListN.{length, drop, length-append, length-map}
-use Rattle.semantics.specs.Refusal.{mostWords}
+use lib.Seq.{drop-length}
+use Rattle.semantics.specs.Refusal.{badMarking, mostWords}
 use Rattle.semantics.specs.Lists.{Every}
 use Rattle.semantics.specs.Word.{kind, payload, bits, only, tokenWord, valueWord}
-use Rattle.semantics.specs.Reading.{read, then, word, valuesIn}
+use Rattle.semantics.specs.Reading.{read, then, numbered, word, valuesIn}
 use Rattle.semantics.specs.Net.{Place, rangesAt}
 use Rattle.semantics.specs.Order.{before, Rising}
 use Rattle.semantics.specs.Marking.{Entry, readEntry, rising, readEntries}
@@ -20,7 +21,7 @@ use Rattle.semantics.proofs.Tests.{and-left, and-right, Every-at, Every
 use Rattle.semantics.proofs.Order.{before-trans}
 use Rattle.semantics.proofs.Words.{token-again, token-kind, token-stray, token-place, token-count}
 use Rattle.semantics.proofs.Entries.{entryKey, wordsOfEntry, wordsOf, Good}
-use Rattle.semantics.proofs.Spans.{read-same, demand-read, then-read, then-demand, Span, span-none, span-append, drop-after, drop-first, word-read, word-reads, values-read, Narrow, values-reads}
+use Rattle.semantics.proofs.Spans.{read-same, demand-read, numbered-read, then-read, then-demand, Span, span-none, span-append, drop-after, drop-first, word-read, word-reads, values-read, Narrow, values-reads}
 
 -- ── One entry ──
 
@@ -119,6 +120,13 @@ entries-read (suc n) places ws last at es next h r = by (leb (length ws) at) ref
         let g = entry-read places ws at e mid p in
         let s = read-same (e ∷ ds) es end next q′ in
         rw (← s .0, ← s .1) (accepted-one places ws last at mid e ds end (g .0) (g .1) (d .0) (f e mid ds end (g .0 .inside h) p′))
+
+-- the words of a whole marking, and the entries that they are
+pub whole-read : (places : List Place) (ws : List ℕ) (es : List Entry) (next : ℕ) → numbered badMarking (readEntries (length ws) places ws [] 0) ≡ read es next → Accepted places ws [] 0 es next
+whole-read places ws es next r = entries-read (length ws) places ws [] 0 es next (omega arith) (numbered-read badMarking (readEntries (length ws) places ws [] 0) es next r)
+
+pub whole-words : (places : List Place) (ws : List ℕ) (es : List Entry) (next : ℕ) → Accepted places ws [] 0 es next → ws ≡ wordsOf es
+whole-words places ws es next a = a .span .split ∙ ap (λ (i : ℕ). wordsOf es ++ drop i ws) (a .ended) ∙ ap (λ (l : List ℕ). wordsOf es ++ l) (drop-length ws) ∙ append-nil (wordsOf es)
 
 -- where the first of the entries ends
 past : ℕ → Entry → ℕ

@@ -1,11 +1,11 @@
--- What a reader that succeeds has read, and when it succeeds: one word, and the VALUE words of a tuple.
+-- What a reader that succeeds has read, and when it succeeds: one word, several structures, and the VALUE words of a tuple.
 -- The words from a position on are those that were read, and then the words from the next position on (`Span`). Each law follows the
 -- reader's definition; the way back starts from the words that stand at the position.
 use mathlib.Core.Path.{_≡_, refl, sym, ap, _∙_}
 use mathlib.Core.Logic.{_⊎_, inl, inr}
 use mathlib.Core.Bool.{Bool, true, false, cond, _&&_}
 use mathlib.Core.List.{List, [], _∷_, _++_, map, append-assoc, List·Memᴰ, List·Memᴰ·head, List·Memᴰ·tail}
-use Prim.Native.Nat.{ℕ, suc, _+_, _≤_, _<_, _^_}
+use Prim.Native.Nat.{ℕ, zero, suc, _+_, _≤_, _<_, _^_}
 use native.Mathlib.Numerals.{add-one}
 use native.Mathlib.Omega.{arith}
 use borrow.Author.Tests.{leb-true, leb-false, lt-leb, lt-ltb, ltb-true, eqb-true, eq-eqb}
@@ -16,7 +16,7 @@ use lib.ListN.{length, getD, drop, length-append, drop-of-length-le}
 use lib.Seq.{drop-cons, drop-drop, drop-append-seam}
 use Rattle.semantics.specs.Refusal.{netTooLong, netEndsEarly, badWord, mostWords}
 use Rattle.semantics.specs.Word.{kind, payload, only, signed, modulo, Range, within, valueWord}
-use Rattle.semantics.specs.Reading.{Reading, read, refused, then, demand, numbered, wordAt, word, valuesIn}
+use Rattle.semantics.specs.Reading.{Reading, read, refused, then, Reader, several, demand, numbered, wordAt, word, valuesIn}
 use Rattle.semantics.specs.Order.{inRanges}
 use Rattle.semantics.proofs.Tests.{false-true, either, and-left, and-right, and-both}
 use Rattle.semantics.proofs.Words.{value-again, modulo-below, value-kind, value-payload, signed-modulo, within-mag}
@@ -46,6 +46,29 @@ then-read (refused n p) k b next e f = refused-read n p b next e
 pub then-demand : {A B : Type 0} (t : Bool) (p : ℕ) (a : A) (mid : ℕ) (k : A → ℕ → Reading B) (b : B) (next : ℕ) → then (demand t p (read a mid)) k ≡ read b next → (t ≡ true) × (k a mid ≡ read b next)
 then-demand true p a mid k b next e = (refl, e)
 then-demand false p a mid k b next e = refused-read badWord p b next e
+
+-- one of several, and the others
+pub record Split {A : Type 0} (r : Reader A) (n at : ℕ) (xs : List A) (end : ℕ) : Type 0 where
+  pub first : A
+  pub mid : ℕ
+  pub others : List A
+  pub reads : r at ≡ read first mid
+  pub rest : several n r mid ≡ read others end
+  pub whole : xs ≡ first ∷ others
+
+pub several-split : {A : Type 0} (r : Reader A) (n at : ℕ) (xs : List A) (end : ℕ) → several (suc n) r at ≡ read xs end → Split r n at xs end
+unfolding several
+several-split r n at xs end h =
+    then-read (r at) _ xs end h λ a mid p q.
+    then-read (several n r mid) _ xs end q λ bs last s t.
+    let e : last ≡ end = cc in
+    let f : xs ≡ a ∷ bs = cc in
+    record { first = a; mid = mid; others = bs; reads = p; rest = rw (← e) s; whole = f }
+
+pub several-length : {A : Type 0} (r : Reader A) (n at : ℕ) (xs : List A) (end : ℕ) → several n r at ≡ read xs end → length xs ≡ n
+unfolding several
+several-length r zero at xs end h = ap length (sym (read-same [] xs at end h .0))
+several-length r (suc n) at xs end h = let s = several-split r n at xs end h in ap length (s .whole) ∙ ap suc (several-length r n (s .mid) (s .others) end (s .rest))
 
 -- ── Words at a position ──
 

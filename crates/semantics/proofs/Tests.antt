@@ -1,28 +1,16 @@
 -- What the tests of the definitions say as facts: conjunctions, equality of integers and tuples, ranges, and tests of lists.
 -- Each law goes by cases on what the test is defined by. Rests on specs/ alone.
 use mathlib.Core.Path.{_≡_, refl, sym, ap, _∙_, subst}
-use mathlib.Core.Bool.{Bool, true, false, _&&_, _||_, cond}
+use mathlib.Core.Bool.{Bool, true, false, _&&_, _||_, cond, false≢true}
 use mathlib.Core.Logic.{_⊎_, inl, inr}
 use mathlib.Core.List.{List, [], _∷_, List·Memᴰ, List·Memᴰ·head, List·Memᴰ·tail, List·Memᴰ·not-nil, Memᴰ·cast}
-use Prim.Native.Nat.{ℕ}
-use native.Mathlib.Omega.{arith}
 use borrow.Author.Tests.{eqb-true, eq-eqb}
 use lib.IntN.{ℤ, pos, negsuc}
 use Rattle.semantics.specs.Lists.{Every, every, consIf, select}
 use Rattle.semantics.specs.Order.{sameInteger, sameTuple}
 
 pub false-true : {X : Type 0} → false ≡ true → X
-false-true e = absurd (clash (one-zero e))
-  where
-    number : Bool → ℕ
-    number true = 1
-    number false = 0
-
-    one-zero : false ≡ true → number false ≡ number true
-    one-zero p = ap number p
-
-    clash : _≡_ {A = ℕ} 0 1 → ⊥
-    clash p = omega arith
+false-true e = absurd (false≢true e)
 
 -- a test is one of the two
 pub either : (t : Bool) → (t ≡ true) ⊎ (t ≡ false)
@@ -31,6 +19,11 @@ either false = inr refl
 
 pub not-both : (t : Bool) → t ≡ true → t ≡ false → ⊥
 not-both t p q = false-true (sym q ∙ p)
+
+-- a test that cannot pass fails
+pub fails : (t : Bool) → (t ≡ true → ⊥) → t ≡ false
+fails true f = absurd (f refl)
+fails false f = refl
 
 pub and-left : (a b : Bool) → (a && b) ≡ true → a ≡ true
 and-left true b e = refl

@@ -8,11 +8,10 @@ use native.Mathlib.Omega.{arith}
 use borrow.Author.Tests.{not-true, not-false}
 use lib.IntN.{ℤ}
 use lib.ListN.{getD, getElem?, set}
-use Rattle.semantics.specs.Word.{bits, within, valueWord}
+use Rattle.semantics.specs.Word.{within, valueWord}
 use Rattle.semantics.specs.Tries.{bindNew}
-use Rattle.semantics.proofs.Accepted.{signed-small}
-use Rattle.semantics.proofs.Words.{within-mag}
 use Rattle.word.specs.Fields.{rangeWord}
+use Rattle.word.proofs.Words.{range-small}
 use Rattle.expression.specs.Evaluate.{valueOf}
 use Rattle.expression.proofs.Laws.{lent-bound}
 use Rattle.net.specs.Places.{rangesFrom}
@@ -38,7 +37,7 @@ range-beyond ws (suc v) at (suc n) h = range-beyond ws v (at + 1) n (omega arith
 -- a value in the range of a RANGE word, as it is written
 pub value-back : (w : ℕ) (z : ℤ) → within (rangeWord w) z ≡ true → valueOf (valueWord z) ≡ some z
 unfolding bind
-value-back w z h = lent-bound (z ∷ []) (within-mag (rangeWord w) z (signed-small (bits 14 27 w) (omega arith)) (signed-small (bits 0 13 w) (omega arith)) h, tt) 0
+value-back w z h = lent-bound (z ∷ []) (range-small w z h, tt) 0
 
 -- ── The rules ──
 

@@ -17,7 +17,7 @@ use Rattle.semantics.specs.Expression.{given}
 use Rattle.semantics.specs.Order.{sameInteger}
 use Rattle.semantics.specs.Tries.{Partial, partly, bindNew, agree}
 use Rattle.semantics.proofs.Tests.{either, integer-same, and-right}
-use Rattle.semantics.proofs.Members.{none-some}
+use Rattle.semantics.proofs.Members.{none-some, replicate-same}
 use Rattle.semantics.proofs.Words.{value-again}
 use Rattle.word.specs.declared.number.Number.{Number}
 use Rattle.word.specs.declared.number.Number.the-variants.{Some}
@@ -150,13 +150,8 @@ module _ (p : Partial) (w : ℕ) {k : ℕ} (e : k ≡ kind w) where
 
 -- ── Of each component ──
 
-zeros : (n i : ℕ) → _≡_ {A = ℕ} (getD (replicate n 0) i 0) 0
-zeros zero i = refl
-zeros (suc n) zero = refl
-zeros (suc n) (suc i) = zeros n i
-
 pub knows-nothing : (v : ℕ) (b parts : List ℕ) (n : ℕ) → Knows v b parts (replicate n 0)
-knows-nothing v b parts n = record { each = λ i. rw (zeros n i) known-not }
+knows-nothing v b parts n = record { each = λ i. rw (replicate-same {A = ℕ} n i 0) known-not }
 
 pub knows-more : {v : ℕ} {b parts known : List ℕ} {k : ℕ} (i : ℕ) → i < length known → Knows v b parts known → IsKnown (wanted (partialOf v b) (getD parts i 0)) k → Knows v b parts (set known i k)
 knows-more {v} {b} {parts} {known} {k} i h f g = record { each = λ j. by j (either (eqb j i)) }

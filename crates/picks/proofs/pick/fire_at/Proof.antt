@@ -2,7 +2,6 @@
 use mathlib.Core.Path.{sym}
 use native.Mathlib.Omega.{arith}
 use borrow.Author.Needs.{needs}
-use lib.ListN.{length}
 use lib.Seq.{length-take-le}
 use Rattle.firing.proofs.Firing.{enabled-at}
 use Rattle.picks.proofs.Firing.{fired-refused, written-fits, copy-fits, fired-written}

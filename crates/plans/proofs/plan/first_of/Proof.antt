@@ -1,4 +1,4 @@
--- `plans::plan::first_of` meets its contract: each arm is one of `firstFault`'s.
+-- `plans::plan::first_of` meets its contract: each arm is one of `firstOf`'s in semantics.
 use borrow.Author.Needs.{needs}
 use Rattle.plans.proofs.plan.first_of.Statement.{statement}
 use Rattle.plans.proofs.plan.first_of.Tie as tie
