@@ -3,7 +3,7 @@
 use mathlib.Core.Path.{_≡_, refl, sym, ap, _∙_, subst}
 use mathlib.Core.Logic.{_⊎_, inl, inr}
 use Prim.Native.Nat.{ℕ, zero, suc, _+_, _*_, _-_, _/_, _%_, _≤_, _<_, _^_}
-use mathlib.Core.Bool.{Bool, true, false, _&&_, _||_, and-assoc}
+use mathlib.Core.Bool.{Bool, true, false, _&&_, _||_, and-assoc, and-true}
 use mathlib.Core.List.{List, [], _∷_, _++_}
 use borrow.Author.Tests.{leb-true, le-leb, lt-leb, ltb-true, ltb-false, eqb-true, eqb-false, lt-ltb, le-ltb, eq-eqb, ne-eqb}
 use native.Mathlib.Nat.{pow-suc, pow-le-pow-right}
@@ -86,10 +86,6 @@ or-more true s b t u = refl
 or-more false true b t u = refl
 or-more false false b t u = refl
 
-and-last : (s : Bool) → (s && true) ≡ s
-and-last true = refl
-and-last false = refl
-
 before-behind : (xs ys : List ℤ) (x y : ℤ) → length xs ≡ length ys → before (xs ++ (x ∷ [])) (ys ++ (y ∷ [])) ≡ (before xs ys || (sameTuple xs ys && ltZ x y))
 unfolding before sameTuple
 before-behind [] [] x y e = or-last (ltZ x y) (sameInteger x y)
@@ -99,7 +95,7 @@ before-behind (a ∷ xs) (b ∷ ys) x y e = rw (before-behind xs ys x y (omega a
 
 same-behind : (xs ys : List ℤ) (x y : ℤ) → length xs ≡ length ys → sameTuple (xs ++ (x ∷ [])) (ys ++ (y ∷ [])) ≡ (sameTuple xs ys && sameInteger x y)
 unfolding sameTuple
-same-behind [] [] x y e = and-last (sameInteger x y)
+same-behind [] [] x y e = and-true (sameInteger x y)
 same-behind [] (b ∷ ys) x y e = absurd (omega arith)
 same-behind (a ∷ xs) [] x y e = absurd (omega arith)
 same-behind (a ∷ xs) (b ∷ ys) x y e = rw (same-behind xs ys x y (omega arith)) (sym (and-assoc (sameInteger a b) (sameTuple xs ys) (sameInteger x y)))

@@ -11,9 +11,9 @@ use lib.IntN.{ℤ, pos, negsuc}
 use lib.Signed.{leZ, mag}
 use Rattle.semantics.specs.Word.{signed, bits, valueWord, within}
 use Rattle.semantics.proofs.Tests.{either, not-both}
-use Rattle.semantics.proofs.Accepted.{signed-small}
 use Rattle.semantics.proofs.Words.{within-mag}
 use Rattle.word.specs.Fields.{ends, rangeWord}
+use Rattle.word.proofs.Words.{range-small}
 use Rattle.colours.specs.Code.{ofDigit}
 use Rattle.colours.proofs.Codes.{digit-at-most, value-back}
 
@@ -43,7 +43,7 @@ module _ (range : ℕ) (z : ℤ) {x : Bool} (e : x ≡ within (ends (negsuc 8191
   range-past d = sym (by (either (within (rangeWord range) z)))
     where
       by : (within (rangeWord range) z ≡ true) ⊎ (within (rangeWord range) z ≡ false) → within (rangeWord range) z ≡ false
-      by (inl w) = absurd (not-both x (e ∙ fourteen z (within-mag (rangeWord range) z (signed-small (bits 14 27 range) (omega arith)) (signed-small (bits 0 13 range) (omega arith)) w)) (not-true x d))
+      by (inl w) = absurd (not-both x (e ∙ fourteen z (range-small range z w)) (not-true x d))
       by (inr w) = w
 
   pub range-digit : not x ≡ false → {w : ℕ} (d : ℕ) {t : Bool} → w ≡ valueWord z → ofDigit d ≡ signed (w % 16384) → t ≡ within (rangeWord range) (ofDigit d) → t ≡ within (rangeWord range) z

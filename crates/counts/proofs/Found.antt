@@ -17,8 +17,8 @@ use Rattle.semantics.specs.Reading.{read, then}
 use Rattle.semantics.specs.Net.{Place, rangesAt}
 use Rattle.semantics.specs.Order.{sameTuple, before, Rising}
 use Rattle.semantics.specs.Marking.{Entry, key, readEntry, rising, readEntries, countsOf}
-use Rattle.semantics.proofs.Tests.{either, not-both, tuple-same, Every-at, Every-of, selected}
-use Rattle.semantics.proofs.Order.{before-irrefl, rising-select}
+use Rattle.semantics.proofs.Tests.{either, fails, not-both, tuple-same, Every-at, Every-of, selected}
+use Rattle.semantics.proofs.Order.{before-unlike, rising-select}
 use Rattle.semantics.proofs.Spans.{then-read, then-demand, demand-read, read-same, numbered-read}
 use Rattle.semantics.proofs.Entries.{entryKey}
 use Rattle.semantics.proofs.ReadEntries.{entries-read}
@@ -101,18 +101,10 @@ counts-none p c (b ∷ bs) e = rw (e .0, counts-none p c bs (e .1)) (by (eqb (b 
     by false = refl
 
 differs : (x c : List ℤ) → before x c ≡ true → sameTuple x c ≡ false
-differs x c h = by (either (sameTuple x c))
-  where
-    by : (sameTuple x c ≡ true) ⊎ (sameTuple x c ≡ false) → sameTuple x c ≡ false
-    by (inl t) = absurd (before-irrefl c (subst (λ (y : List ℤ). before y c ≡ true) (tuple-same x c t) h))
-    by (inr t) = t
+differs x c h = fails (sameTuple x c) (λ t. before-unlike x c h (tuple-same x c t))
 
 differs-later : (x y c : List ℤ) → before x c ≡ false → before x y ≡ true → sameTuple y c ≡ false
-differs-later x y c h k = by (either (sameTuple y c))
-  where
-    by : (sameTuple y c ≡ true) ⊎ (sameTuple y c ≡ false) → sameTuple y c ≡ false
-    by (inl t) = absurd (not-both (before x c) (subst (λ (z : List ℤ). before x z ≡ true) (tuple-same y c t) k) h)
-    by (inr t) = t
+differs-later x y c h k = fails (sameTuple y c) (λ t. not-both (before x c) (subst (λ (z : List ℤ). before x z ≡ true) (tuple-same y c t) k) h)
 
 -- in a rising list of entries of a place
 counts-rank : (p : ℕ) (c : List ℤ) (bs : List Entry) → Every (λ (b : Entry). b .place ≡ p) bs → Rising (λ x. x) (colours bs) → countsOf bs p c ≡ countAt bs (rankOf (colours bs) c) c

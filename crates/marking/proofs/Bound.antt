@@ -5,21 +5,19 @@ use mathlib.Core.Bool.{true}
 use mathlib.Core.List.{List, [], _∷_, _++_, map, append-nil}
 use borrow.Author.Needs.{needs}
 use borrow.Author.Tests.{le-leb, lt-leb, leb-true}
-use native.Mathlib.Omega.{arith}
 use lib.Dec.{leb}
 use lib.IntN.{ℤ}
 use lib.Signed.{mag}
 use lib.ListN.{length, getD, drop, drop-of-length-le}
 use Rattle.semantics.specs.Refusal.{badBinding}
 use Rattle.semantics.specs.Lists.{Every}
-use Rattle.semantics.specs.Word.{bits, Range, within, valueWord}
+use Rattle.semantics.specs.Word.{Range, within, valueWord}
 use Rattle.semantics.specs.Order.{inRanges}
 use Rattle.semantics.specs.Reading.{Reading, read, refused, then, valuesIn, ended, numbered}
 use Rattle.semantics.proofs.Tests.{false-true, and-left, and-right}
-use Rattle.semantics.proofs.Words.{within-mag}
-use Rattle.semantics.proofs.Accepted.{signed-small}
 use Rattle.semantics.proofs.Spans.{refused-read, read-same, demand-read, numbered-read, then-read, values-read}
 use Rattle.word.specs.Fields.{rangeWord}
+use Rattle.word.proofs.Words.{range-small}
 use Rattle.net.specs.Places.{rangesFrom}
 use Rattle.expression.specs.declared.read.Skipped.{Skipped}
 use Rattle.expression.specs.declared.read.Skipped.the-variants.{Next, Refused}
@@ -80,4 +78,4 @@ ranged-small nws (suc n) at [] e = false-true e
 ranged-small nws (suc n) at (z ∷ zs) e =
     let r = rangeWord (getD nws at 0) in
     let w = and-left (within r z) (inRanges (rangesFrom nws n (at + 1)) zs) e in
-    (within-mag r z (signed-small (bits 14 27 (getD nws at 0)) (omega arith)) (signed-small (bits 0 13 (getD nws at 0)) (omega arith)) w, ranged-small nws n (at + 1) zs (and-right (within r z) (inRanges (rangesFrom nws n (at + 1)) zs) e))
+    (range-small (getD nws at 0) z w, ranged-small nws n (at + 1) zs (and-right (within r z) (inRanges (rangesFrom nws n (at + 1)) zs) e))

@@ -3,7 +3,7 @@
 use mathlib.Core.Path.{_≡_, refl, sym, ap, _∙_, subst}
 use Prim.Native.Nat.{ℕ, zero, suc, _+_, _-_, _≤_, _<_, _%_}
 use mathlib.Core.Logic.{_⊎_, inl, inr}
-use mathlib.Core.Bool.{Bool, true, false, cond, not, _&&_}
+use mathlib.Core.Bool.{Bool, true, false, cond, not, and-false}
 use mathlib.Core.List.{List, [], _∷_, _++_, append-nil, append-assoc}
 use borrow.Author.Needs.{needs}
 use borrow.Author.Tests.{leb-true, leb-false, lt-leb, le-leb, lt-ltb, le-ltb, ltb-true, ne-eqb, eq-eqb, eqb-true, eqb-false, not-true, not-false}
@@ -104,10 +104,6 @@ before-nothing (x ∷ xs) = refl
 nothing-before : (y : ℤ) (ys : List ℤ) → before [] (y ∷ ys) ≡ true
 unfolding before
 nothing-before y ys = refl
-
-and-false : (t : Bool) → (t && false) ≡ false
-and-false true = refl
-and-false false = refl
 
 pub place-after : (e : Entry) (p : ℕ) → p ≤ e .place → before (key (e .place) (e .colour)) (pos p ∷ []) ≡ false
 unfolding before
