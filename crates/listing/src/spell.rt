@@ -1,9 +1,11 @@
 // Expressions in words: operators with their operands in brackets.
+use crate::lines::put_line;
 use text::number::put_decimal;
 use text::number::put_value;
 use text::put::put_byte;
 use text::put::put_bytes;
 use word::fields::kind;
+use word::size::at_most;
 ghost use Prim.Native.Nat.{_≤_};
 
 // Where an expression ends, where its text ends, and how many words it might still have had.
@@ -15,14 +17,12 @@ pub struct Spelled {
 
 // The name of an operator.
 pub fn put_operator(out: &mut [u8], at: usize, code: u32) -> usize {
-    match code {
-        0 => put_bytes(out, at, b"add"),
-        1 => put_bytes(out, at, b"subtract"),
-        2 => put_bytes(out, at, b"multiply"),
-        3 => put_bytes(out, at, b"remainder"),
-        4 => put_bytes(out, at, b"load"),
-        _ => put_bytes(out, at, b"operator"),
-    }
+    put_line(
+        out,
+        at,
+        b"add\nsubtract\nmultiply\nremainder\nload\noperator",
+        at_most(code as usize, 5),
+    )
 }
 
 // The number of a variable.
