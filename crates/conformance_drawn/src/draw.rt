@@ -133,16 +133,24 @@ pub fn expression(words: &mut [u32], at: usize, seed: u64, x: u32, y: u32) -> Dr
     operator(words, at, s, x, y, k - 7)
 }
 
+// The constants from 0 to 3, 1 most often.
+fn constant_of(k: u32) -> u32 {
+    match k {
+        0 => 0,
+        1..=3 => 1,
+        4 => 2,
+        _ => 3,
+    }
+}
+
 // Mostly a constant from 0 to 3.
 pub fn coefficient(words: &mut [u32], at: usize, seed: u64, x: u32, y: u32) -> Drawn {
     let s = next(seed);
-    match pick(s, 8) {
-        0 => constant(words, at, s, 0),
-        1..=3 => constant(words, at, s, 1),
-        4 => constant(words, at, s, 2),
-        5 => constant(words, at, s, 3),
-        _ => expression(words, at, s, x, y),
+    let k = pick(s, 8);
+    if k < 6 {
+        return constant(words, at, s, constant_of(k));
     }
+    expression(words, at, s, x, y)
 }
 
 // Mostly a constant of a range, given by its low value and the number of its values.

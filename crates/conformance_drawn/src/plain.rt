@@ -108,24 +108,32 @@ fn put_value(words: &mut [u32], at: usize, v: u32) -> usize {
     put(words, at, 0xC000_0000 + v % 0x4000)
 }
 
-// The entry of a colour by its index.
-fn put_entry(words: &mut [u32], at: usize, i: u32, count: u32) -> usize {
-    let bits = count % 0x4000;
+// The place of a colour by its index.
+fn place_of(i: u32) -> u32 {
     match i {
-        0..=3 => {
-            let first = put(words, at, 0xB000_0000 + bits);
-            put_value(words, first, wrapping_sub_u32(i, 1))
-        }
+        0..=3 => 0,
+        4..=9 => 1,
+        _ => 2,
+    }
+}
+
+// The values of a colour by its index.
+fn put_values(words: &mut [u32], at: usize, i: u32) -> usize {
+    match i {
+        0..=3 => put_value(words, at, wrapping_sub_u32(i, 1)),
         4..=9 => {
-            let token = put(words, at, 0xB000_4000 + bits);
-            let last = put_value(words, token, (i - 4) / 3);
+            let last = put_value(words, at, (i - 4) / 3);
             put_value(words, last, wrapping_sub_u32((i - 4) % 3, 1))
         }
-        _ => {
-            let second = put(words, at, 0xB000_8000 + bits);
-            put_value(words, second, wrapping_sub_u32(i, 7))
-        }
+        _ => put_value(words, at, wrapping_sub_u32(i, 7)),
     }
+}
+
+// The entry of a colour by its index.
+fn put_entry(words: &mut [u32], at: usize, i: u32, count: u32) -> usize {
+    let token = wrapping_add_u32(0xB000_0000 + count % 0x4000, place_of(i) % 4 * 0x4000);
+    let first = put(words, at, token);
+    put_values(words, first, i)
 }
 
 // The entry of a colour by its index, where the count is not 0.

@@ -42,12 +42,25 @@ fn one_if(b: bool) -> u32 {
     0
 }
 
-fn first_component(words: &mut [u32], c: Drawn, x: u32, y: u32, place: u32) -> Drawn {
+// The low value of the first component of a place.
+fn low_of(place: u32) -> u32 {
     match place {
-        0 => component(words, c.at, c.seed, x, y, 0xFFFF_FFFF, 4),
-        1 => component(words, c.at, c.seed, x, y, 0, 2),
-        _ => component(words, c.at, c.seed, x, y, 3, 2),
+        0 => 0xFFFF_FFFF,
+        1 => 0,
+        _ => 3,
     }
+}
+
+// How many values it has.
+fn width_of(place: u32) -> u32 {
+    match place {
+        0 => 4,
+        _ => 2,
+    }
+}
+
+fn first_component(words: &mut [u32], c: Drawn, x: u32, y: u32, place: u32) -> Drawn {
+    component(words, c.at, c.seed, x, y, low_of(place), width_of(place))
 }
 
 // The second component of place 1; the others have none.
@@ -418,18 +431,35 @@ fn same_test(t: Tested, z: Input, p: Plain) -> bool {
     }
 }
 
+// Whether the new marking is the one that is due, and the words after it stay.
+fn same_written(n: usize, p: Plain, buffer: &[u32], words: &[u32]) -> bool {
+    if p.number != 0 || n != p.length {
+        return false;
+    }
+    same_words(buffer, words, n) && first_changed(buffer, n) == buffer.len()
+}
+
+// Whether a refusal is the one that is due.
+fn same_refusal(number: u32, position: usize, z: Input, p: Plain) -> bool {
+    if z.number == 0 {
+        return 0 < number && p.number == number && position == 0;
+    }
+    z.number == number && z.position == position
+}
+
 fn same_fire(f: Fired, z: Input, p: Plain, buffer: &[u32], words: &[u32]) -> bool {
-    let first = first_changed(buffer, 0);
     match f {
         Fired::Written(n) => {
-            let due = z.number == 0 && p.number == 0 && n == p.length;
-            due && same_words(buffer, words, n) && first_changed(buffer, n) == buffer.len()
+            if z.number == 0 {
+                return same_written(n, p, buffer, words);
+            }
+            false
         }
         Fired::Refused(m, q) => {
-            if z.number == 0 {
-                return p.number == m && q == 0 && 0 < m && first == buffer.len();
+            if same_refusal(m, q, z, p) {
+                return first_changed(buffer, 0) == buffer.len();
             }
-            z.number == m && z.position == q && first == buffer.len()
+            false
         }
     }
 }
@@ -442,13 +472,15 @@ pub struct Tally {
     pub different: u32,
 }
 
+fn say_number(name: &[u8], n: u64) {
+    io::write_all(1, name);
+    io::print_decimal(1, n);
+}
+
 fn say_due(z: Input, p: Plain, words: &[u32]) {
-    io::write_all(1, b"\ndue: input refusal ");
-    io::print_decimal(1, z.number as u64);
-    io::write_all(1, b" at ");
-    io::print_decimal(1, z.position as u64);
-    io::write_all(1, b", state refusal ");
-    io::print_decimal(1, p.number as u64);
+    say_number(b"\ndue: input refusal ", z.number as u64);
+    say_number(b" at ", z.position as u64);
+    say_number(b", state refusal ", p.number as u64);
     io::write_all(1, b", words");
     say_words(front(words, p.length));
     io::write_all(1, b"\n");
@@ -467,10 +499,8 @@ fn say_input(net: &[u32], marking: &[u32], binding: &[u32], z: Input, room: usiz
     say_words(marking);
     io::write_all(1, b"\nbinding");
     say_words(binding);
-    io::write_all(1, b"\ntransition ");
-    io::print_decimal(1, z.transition as u64);
-    io::write_all(1, b" room ");
-    io::print_decimal(1, room as u64);
+    say_number(b"\ntransition ", z.transition as u64);
+    say_number(b" room ", room as u64);
 }
 
 // The kind of a case.
@@ -654,18 +684,21 @@ fn say_kinds(kinds: &[u32]) {
     }
 }
 
+// How many cases showed a difference.
+fn say_end(different: u32) {
+    if different == 0 {
+        io::write_all(1, b"no difference\n");
+        return;
+    }
+    say_number(b"differences: ", different as u64);
+    io::write_all(1, b"\n");
+}
+
 pub fn all() {
     heading(b"3000 drawn cases against plain firing on counts");
     let t = samples(3000);
     say_kinds(&t.kinds);
-    io::write_all(1, b"enabled: ");
-    io::print_decimal(1, t.enabled as u64);
+    say_number(b"enabled: ", t.enabled as u64);
     io::write_all(1, b"\n");
-    if t.different == 0 {
-        io::write_all(1, b"no difference\n");
-        return;
-    }
-    io::write_all(1, b"differences: ");
-    io::print_decimal(1, t.different as u64);
-    io::write_all(1, b"\n");
+    say_end(t.different);
 }

@@ -1,7 +1,17 @@
-// Tables of cases, a line each, with bars between its fields: name, net, marking, binding, numbers. A table's nets begin with the words of its
-// head. The numbers are the transition and the room for the new marking, 0 and 24 where they are left out.
+// Tables of cases, read from standard input. A line `== ` is a heading. A line `* ` says which calls the cases under it are for, by its first letter, and the
+// words that their nets begin with:
+//   b  both: test and fire
+//   t  test
+//   f  fire
+//   n  net: both on a net of more than 16,384 words, from their number
+//   m  marking: both on a marking of about 16,384 words, from a net and the marking's numbers
+// Any other line is a case, with bars between its fields: name, net, marking, binding, numbers. The numbers are the transition and the room for the new
+// marking, 0 and 24 where they are left out.
+use crate::length::long_marking;
+use crate::length::long_net;
 use conformance_plain::build::front;
 use conformance_plain::build::write;
+use conformance_plain::reading::wide;
 use conformance_plain::text::after;
 use conformance_plain::text::bar_after;
 use conformance_plain::text::field;
@@ -9,22 +19,19 @@ use conformance_plain::text::find;
 use conformance_plain::text::part;
 use conformance_report::report::case;
 use conformance_report::report::fire_case;
+use conformance_report::report::heading;
 use conformance_report::report::test_case;
 
-// Which calls a table's cases are for.
-pub enum Form {
-    Both,
-    Test,
-    Fire,
-}
-
-fn wide(w: u32) -> usize {
-    w as usize
+fn byte_at(text: &[u8], at: usize) -> u8 {
+    if at < text.len() {
+        return text[at];
+    }
+    0
 }
 
 // The calls on one case.
 fn call(
-    form: Form,
+    form: u8,
     name: &[u8],
     net: &[u32],
     transition: u32,
@@ -33,21 +40,15 @@ fn call(
     room: usize,
 ) {
     match form {
-        Form::Both => {
-            case(name, net, transition, marking, binding, room);
-        }
-        Form::Test => {
-            test_case(name, net, transition, marking, binding);
-        }
-        Form::Fire => {
-            fire_case(name, net, transition, marking, binding, room);
-        }
+        b't' => test_case(name, net, transition, marking, binding),
+        b'f' => fire_case(name, net, transition, marking, binding, room),
+        _ => case(name, net, transition, marking, binding, room),
     }
 }
 
 // One case from its fields.
 fn run(
-    form: Form,
+    form: u8,
     name: &[u8],
     head: &[u8],
     net: &[u8],
@@ -76,17 +77,34 @@ fn run(
     );
 }
 
-// The line at a position.
-fn run_line(form: Form, head: &[u8], text: &[u8], at: usize, end: usize) {
+// One case by its form.
+fn run_form(
+    form: u8,
+    name: &[u8],
+    head: &[u8],
+    net: &[u8],
+    marking: &[u8],
+    binding: &[u8],
+    numbers: &[u8],
+) {
+    match form {
+        b'n' => long_net(name, net),
+        b'm' => long_marking(name, net, marking),
+        _ => run(form, name, head, net, marking, binding, numbers),
+    }
+}
+
+// The case at a position, under the table that begins at another: its words behind the form are the first of the net.
+fn run_case(text: &[u8], table: usize, at: usize, end: usize) {
     let net = bar_after(text, at, end);
     let marking = bar_after(text, net, end);
     let binding = bar_after(text, marking, end);
     let numbers = bar_after(text, binding, end);
     if 0 < net {
-        run(
-            form,
+        run_form(
+            byte_at(text, after(text, table, 2)),
             part(text, at, net - 1),
-            head,
+            part(text, after(text, table, 7), find(text, table, b'\n')),
             field(text, net, marking),
             field(text, marking, binding),
             field(text, binding, numbers),
@@ -95,17 +113,40 @@ fn run_line(form: Form, head: &[u8], text: &[u8], at: usize, end: usize) {
     }
 }
 
-// Each line of a table, which begins and ends with a line's end.
-pub fn table(form: Form, head: &[u8], text: &[u8]) {
+// The line at a position; answers where the table begins that the next line stands in.
+fn run_line(text: &[u8], table: usize, at: usize, end: usize) -> usize {
+    match byte_at(text, at) {
+        b'=' => {
+            heading(part(text, after(text, at, 3), end));
+            table
+        }
+        b'*' => at,
+        _ => {
+            run_case(text, table, at, end);
+            table
+        }
+    }
+}
+
+// Each line of a text.
+fn lines(text: &[u8]) {
     let mut left = text.len();
-    let mut at = after(text, 0, 1);
+    let mut table = 0;
+    let mut at = 0;
     while 0 < left {
         if text.len() <= at {
             return;
         }
         let end = find(text, at, b'\n');
-        run_line(form, head, text, at, end);
+        table = run_line(text, table, at, end);
         at = after(text, end, 1);
         left -= 1;
     }
+}
+
+// All of standard input.
+pub fn all() {
+    let mut text = [0u8; 65536];
+    let n = io::read_full(0, &mut text);
+    lines(part(&text, 0, n));
 }

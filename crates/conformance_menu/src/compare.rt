@@ -1,6 +1,7 @@
 // The call menu held against what is due, and the first difference in full.
 use conformance_lister::lister::Listing;
 use conformance_plain::build::front;
+use conformance_plain::reading::less;
 use conformance_plain::reading::plus;
 use conformance_plain::reading::wide;
 use conformance_report::report::fill;
@@ -14,6 +15,7 @@ use conformance_report::tally::add;
 use conformance_report::tally::differ;
 use menus::menu::menu;
 use semantics::Listed;
+use std::num::wrapping_sub_u32;
 
 // The answer that is due: a refusal with its number and position, or with 0 for the number N, W and how many words of the list are written.
 pub struct Due {
@@ -54,28 +56,12 @@ pub fn due_of(l: Listing, tries: u32, budget: u32, room: usize) -> Due {
     }
 }
 
-// Menu into the first words of a buffer.
-fn menu_into(
-    net: &[u32],
-    transition: u32,
-    marking: &[u32],
-    budget: u32,
-    buffer: &mut [u32],
-    room: usize,
-) -> Listed {
-    if buffer.len() < room {
-        return menu(net, transition, marking, budget, buffer);
-    }
-    menu(net, transition, marking, budget, &mut buffer[0..room])
-}
-
-// The first words of a buffer as they are before a call.
-fn fill_front(buffer: &mut [u32], n: usize) {
+// The first words of a buffer, or all where there are fewer.
+fn first(buffer: &mut [u32], n: usize) -> &mut [u32] {
     if buffer.len() < n {
-        fill(buffer);
-        return;
+        return buffer;
     }
-    fill(&mut buffer[0..n]);
+    &mut buffer[0..n]
 }
 
 // How far a buffer is looked at: some words beyond the room.
@@ -83,20 +69,38 @@ fn reach(room: usize) -> usize {
     plus(room, 8)
 }
 
+// Whether N, W and the words of a list are those that are due.
+fn same_list(d: Due, n: u32, w: u32, buffer: &[u32], list: &[u32]) -> bool {
+    if d.number != 0 || n != d.count || w != d.tries {
+        return false;
+    }
+    same_words(buffer, list, d.words)
+}
+
+// Whether the buffer is zeros where the refusal is for the state, and stays for any other.
+fn left_refused(number: u32, room: usize, buffer: &[u32]) -> bool {
+    if number < 10 {
+        return stay(buffer, 0, reach(room));
+    }
+    if zeros(buffer, room) {
+        return stay(buffer, room, reach(room));
+    }
+    false
+}
+
 fn same(answer: Listed, d: Due, room: usize, buffer: &[u32], list: &[u32]) -> bool {
     match answer {
         Listed::Found(n, w) => {
-            let numbers = d.number == 0 && n == d.count && w == d.tries;
-            numbers && same_words(buffer, list, d.words) && stay(buffer, d.words, reach(room))
+            if same_list(d, n, w, buffer, list) {
+                return stay(buffer, d.words, reach(room));
+            }
+            false
         }
         Listed::Refused(m, p) => {
             if m == 0 || m != d.number || p != d.position {
                 return false;
             }
-            if 10 <= m {
-                return zeros(buffer, room) && stay(buffer, room, reach(room));
-            }
-            stay(buffer, 0, reach(room))
+            left_refused(m, room, buffer)
         }
     }
 }
@@ -132,16 +136,16 @@ fn say_due(d: Due, list: &[u32]) {
     say_words(front(list, d.words));
 }
 
+fn say_listed(answer: Listed) {
+    match answer {
+        Listed::Found(n, w) => say_found(n, w),
+        Listed::Refused(m, p) => refused(m, p),
+    }
+}
+
 fn say_answer(answer: Listed, buffer: &[u32], room: usize) {
     io::write_all(1, b"\nmenu: ");
-    match answer {
-        Listed::Found(n, w) => {
-            say_found(n, w);
-        }
-        Listed::Refused(m, p) => {
-            refused(m, p);
-        }
-    }
+    say_listed(answer);
     io::write_all(1, b", buffer");
     say_words(front(buffer, reach(room)));
     io::write_all(1, b"\n");
@@ -159,8 +163,8 @@ pub fn compare(
     list: &[u32],
     buffer: &mut [u32],
 ) -> Tally {
-    fill_front(buffer, reach(room));
-    let answer = menu_into(net, transition, marking, budget, buffer, room);
+    fill(first(buffer, reach(room)));
+    let answer = menu(net, transition, marking, budget, first(buffer, room));
     let counted = add(t, wide(d.number), 1);
     if same(answer, d, room, buffer, list) {
         return counted;
@@ -173,69 +177,38 @@ pub fn compare(
     differ(counted)
 }
 
-// One call of menu on an accepted input against the list and the tries.
-pub fn compare_listed(
-    t: Tally,
-    net: &[u32],
-    transition: u32,
-    marking: &[u32],
-    budget: u32,
-    room: usize,
-    l: Listing,
-    tries: u32,
-    list: &[u32],
-    buffer: &mut [u32],
-) -> Tally {
-    let d = due_of(l, tries, budget, room);
-    compare(t, net, transition, marking, budget, room, d, list, buffer)
+// The budgets of six calls: plenty, just enough, none, one less than W, and both again for a room that is too short.
+fn budget_of(k: u32, tries: u32) -> u32 {
+    match k {
+        0 => 0xFFFF_FFFF,
+        1 | 4 => tries,
+        2 => 0,
+        _ => wrapping_sub_u32(tries, 1),
+    }
 }
 
-// Calls with a room that is one word short, with a budget of W and of one less.
-fn compare_short(
-    t: Tally,
-    net: &[u32],
-    transition: u32,
-    marking: &[u32],
-    l: Listing,
-    tries: u32,
-    list: &[u32],
-    buffer: &mut [u32],
-) -> Tally {
-    if l.words == 0 {
-        return t;
+// Their rooms: plenty, just enough, none, plenty, and twice a word too short.
+fn room_of(k: u32, words: usize) -> usize {
+    match k {
+        0 | 3 => plus(words, 5),
+        1 => words,
+        2 => 0,
+        _ => less(words),
     }
-    let room = l.words - 1;
-    let a = compare_listed(
-        t,
-        net,
-        transition,
-        marking,
-        tries,
-        room,
-        l,
-        tries,
-        list,
-        buffer,
-    );
-    if tries == 0 {
-        return a;
-    }
-    compare_listed(
-        a,
-        net,
-        transition,
-        marking,
-        tries - 1,
-        room,
-        l,
-        tries,
-        list,
-        buffer,
-    )
 }
 
-// Calls with a budget that is plenty, just enough, none, and one less than W, and with rooms that are plenty, just enough and none.
-fn compare_long(
+// Whether there is a budget or a room that is one less.
+fn is_made(k: u32, tries: u32, words: usize) -> bool {
+    match k {
+        3 => 0 < tries,
+        4 => 0 < words,
+        5 => 0 < tries && 0 < words,
+        _ => true,
+    }
+}
+
+// One of these calls on an accepted input against the list and the tries.
+fn compare_listed(
     t: Tally,
     net: &[u32],
     transition: u32,
@@ -244,50 +217,15 @@ fn compare_long(
     tries: u32,
     list: &[u32],
     buffer: &mut [u32],
+    k: u32,
 ) -> Tally {
-    let most = 0xFFFF_FFFF;
-    let n = l.words;
-    let plenty = plus(n, 5);
-    let a = compare_listed(
-        t,
-        net,
-        transition,
-        marking,
-        most,
-        plenty,
-        l,
-        tries,
-        list,
-        buffer,
-    );
-    let b = compare_listed(
-        a,
-        net,
-        transition,
-        marking,
-        tries,
-        n,
-        l,
-        tries,
-        list,
-        buffer,
-    );
-    let c = compare_listed(b, net, transition, marking, 0, 0, l, tries, list, buffer);
-    if tries == 0 {
-        return c;
+    let budget = budget_of(k, tries);
+    let room = room_of(k, l.words);
+    if is_made(k, tries, l.words) {
+        let d = due_of(l, tries, budget, room);
+        return compare(t, net, transition, marking, budget, room, d, list, buffer);
     }
-    compare_listed(
-        c,
-        net,
-        transition,
-        marking,
-        tries - 1,
-        plenty,
-        l,
-        tries,
-        list,
-        buffer,
-    )
+    t
 }
 
 // Calls on a net with its marking, by budget and room.
@@ -301,6 +239,11 @@ pub fn compare_all(
     list: &[u32],
     buffer: &mut [u32],
 ) -> Tally {
-    let a = compare_long(t, net, transition, marking, l, tries, list, buffer);
-    compare_short(a, net, transition, marking, l, tries, list, buffer)
+    let mut told = t;
+    let mut k: u32 = 0;
+    while k < 6 {
+        told = compare_listed(told, net, transition, marking, l, tries, list, buffer, k);
+        k += 1;
+    }
+    told
 }

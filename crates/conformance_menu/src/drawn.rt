@@ -2,34 +2,16 @@
 use crate::compare::compare;
 use crate::compare::compare_all;
 use crate::compare::due_refused;
-use crate::kinds::AGAIN;
-use crate::kinds::BESIDE;
 use crate::kinds::CASES;
-use crate::kinds::CONSTANT;
-use crate::kinds::EMPTY;
-use crate::kinds::LISTED;
-use crate::kinds::MATCH_FIRST;
-use crate::kinds::MATCH_LOST;
-use crate::kinds::NEGATIVE;
 use crate::kinds::NO_VARIABLES;
-use crate::kinds::OPERATOR;
 use crate::kinds::OVER;
-use crate::kinds::RANGE_FIRST;
-use crate::kinds::RANGE_ONLY;
-use crate::kinds::REPEATED;
-use crate::kinds::SOLVE_FIRST;
-use crate::kinds::SOLVE_LOST;
-use crate::kinds::SOME;
-use crate::kinds::TRIES;
 use crate::kinds::TWO_PLANS;
-use crate::kinds::UNORDERED;
-use crate::kinds::VARYING;
-use crate::kinds::ZERO;
 use crate::kinds::count_kinds;
 use conformance_draw::draw::Draft;
 use conformance_draw::draw::jump;
 use conformance_draw::draw::next;
 use conformance_draw::draw::pick;
+use conformance_draw::nets::Head;
 use conformance_draw::nets::beside;
 use conformance_draw::nets::draw_head;
 use conformance_draw::nets::marking;
@@ -48,12 +30,51 @@ use conformance_report::report::heading;
 use conformance_report::report::same_words;
 use conformance_report::tally::Tally;
 use conformance_report::tally::add;
+use conformance_report::tally::add_if;
 use conformance_report::tally::answers;
 use conformance_report::tally::end;
-use conformance_report::tally::line;
+use conformance_report::tally::lines;
 use conformance_report::tally::none;
 
-// A call with an input that is refused: the net a word short, no such transition, or a TOKEN with nothing after it.
+// An input that is refused: the lengths of net and marking, the transition, and the refusal.
+struct Spoilt {
+    net: usize,
+    transition: u32,
+    marking: usize,
+    number: u32,
+    position: usize,
+}
+
+// The net a word short, no such transition, or a TOKEN with nothing after it.
+fn spoil(net: &[u32], transition: u32, words: &mut [u32], length: usize, k: u32) -> Spoilt {
+    let cut = less(net.len());
+    let mut z = Spoilt {
+        net: net.len(),
+        transition: get(net, 0) % 256,
+        marking: length,
+        number: 6,
+        position: 0,
+    };
+    match k {
+        0 => {
+            z.net = cut;
+            z.transition = 7;
+            z.number = 2;
+            z.position = cut;
+            z
+        }
+        1 => z,
+        _ => {
+            z.transition = transition;
+            z.marking = put(words, length, 0xB000_0001);
+            z.number = 7;
+            z.position = z.marking;
+            z
+        }
+    }
+}
+
+// A call with an input that is refused.
 fn compare_refused(
     t: Tally,
     net: &[u32],
@@ -63,52 +84,18 @@ fn compare_refused(
     k: u32,
     buffer: &mut [u32],
 ) -> Tally {
-    match k {
-        0 => {
-            let cut = less(net.len());
-            let d = due_refused(2, cut);
-            compare(
-                t,
-                front(net, cut),
-                7,
-                front(words, length),
-                9,
-                4,
-                d,
-                front(net, 0),
-                buffer,
-            )
-        }
-        1 => {
-            let d = due_refused(6, 0);
-            compare(
-                t,
-                net,
-                get(net, 0) % 256,
-                front(words, length),
-                9,
-                4,
-                d,
-                front(net, 0),
-                buffer,
-            )
-        }
-        _ => {
-            let more = put(words, length, 0xB000_0001);
-            let d = due_refused(7, more);
-            compare(
-                t,
-                net,
-                transition,
-                front(words, more),
-                9,
-                4,
-                d,
-                front(net, 0),
-                buffer,
-            )
-        }
-    }
+    let z = spoil(net, transition, words, length, k);
+    compare(
+        t,
+        front(net, z.net),
+        z.transition,
+        front(words, z.marking),
+        9,
+        4,
+        due_refused(z.number, z.position),
+        front(net, 0),
+        buffer,
+    )
 }
 
 // Two nets that differ only in their plans: their lengths, the number of the drawn transition, and the state of the sequence.
@@ -127,59 +114,35 @@ fn finish(words: &mut [u32], at: usize, k: u32) -> usize {
     at
 }
 
+// A plan for the drawn transition, and the words after it.
+fn draw_rest(words: &mut [u32], h: Head, seed: u64, k: u32) -> Draft {
+    let start = Draft {
+        at: h.at,
+        seed: seed,
+    };
+    let d = draw_plan(words, h.transition, start);
+    Draft {
+        at: finish(words, d.at, k),
+        seed: d.seed,
+    }
+}
+
 fn draw_nets(net: &mut [u32], other: &mut [u32], seed: u64) -> Pair {
     let s = next(seed);
     let k = pick(s, 12);
     let h = draw_head(net, s, k);
     copy(net, other, h.at);
-    let one = Draft {
-        at: h.at,
-        seed: h.seed,
-    };
-    let a = draw_plan(net, h.transition, one);
-    let two = Draft {
-        at: h.at,
-        seed: a.seed,
-    };
-    let b = draw_plan(other, h.transition, two);
+    let a = draw_rest(net, h, h.seed, k);
+    let b = draw_rest(other, h, a.seed, k);
     Pair {
-        first: finish(net, a.at, k),
-        second: finish(other, b.at, k),
+        first: a.at,
+        second: b.at,
         transition: h.transition,
         seed: b.seed,
     }
 }
 
-// The second plan, which has to give the same list.
-fn compare_other(
-    t: Tally,
-    other: &[u32],
-    transition: u32,
-    marking: &[u32],
-    list: &[u32],
-    l: Listing,
-    buffer: &mut [u32],
-    queue: &mut [u32],
-) -> Tally {
-    let s = shape_of(other, transition);
-    let w = count_tries(other, s, marking, queue);
-    if w.over {
-        return add(t, OVER, 1);
-    }
-    let kinds = count_kinds(t, other, s, marking, list, l, queue, w);
-    compare_all(
-        add(kinds, TWO_PLANS, 1),
-        other,
-        transition,
-        marking,
-        l,
-        w.tries,
-        list,
-        buffer,
-    )
-}
-
-// A net with its marking.
+// A net with its marking; for a second plan, the list has to be that of the first.
 pub fn compare_net(
     t: Tally,
     net: &[u32],
@@ -189,6 +152,7 @@ pub fn compare_net(
     l: Listing,
     buffer: &mut [u32],
     queue: &mut [u32],
+    second: bool,
 ) -> Tally {
     let s = shape_of(net, transition);
     let w = count_tries(net, s, marking, queue);
@@ -196,7 +160,12 @@ pub fn compare_net(
         return add(t, OVER, 1);
     }
     let kinds = count_kinds(t, net, s, marking, list, l, queue, w);
-    compare_all(kinds, net, transition, marking, l, w.tries, list, buffer)
+    let plans = add_if(kinds, TWO_PLANS, second);
+    compare_all(plans, net, transition, marking, l, w.tries, list, buffer)
+}
+
+fn same_net(net: &[u32], other: &[u32]) -> bool {
+    net.len() == other.len() && same_words(net, other, net.len())
 }
 
 fn compare_plans(
@@ -215,11 +184,21 @@ fn compare_plans(
         counts_of(net, marking),
         list,
     );
-    let one = compare_net(t, net, transition, marking, list, l, buffer, queue);
-    if net.len() == other.len() && same_words(net, other, net.len()) {
+    let one = compare_net(t, net, transition, marking, list, l, buffer, queue, false);
+    if same_net(net, other) {
         return one;
     }
-    compare_other(one, other, transition, marking, list, l, buffer, queue)
+    compare_net(
+        one,
+        other,
+        transition,
+        marking,
+        list,
+        l,
+        buffer,
+        queue,
+        true,
+    )
 }
 
 // Two nets that differ only in their plans, with a marking that is drawn into lent words.
@@ -284,36 +263,13 @@ fn judge_nets(
     compare_unfit(judged, net, p.first, p.transition, buffer)
 }
 
-// One case, drawn into lent words.
-fn sample_in(
-    t: Tally,
-    seed: u64,
-    net: &mut [u32],
-    other: &mut [u32],
-    words: &mut [u32],
-    list: &mut [u32],
-    buffer: &mut [u32],
-    queue: &mut [u32],
-) -> Tally {
-    let p = draw_nets(net, other, seed);
-    judge_nets(t, p, net, other, words, list, buffer, queue)
-}
-
 // One case.
 fn sample(t: Tally, seed: u64, list: &mut [u32], buffer: &mut [u32], queue: &mut [u32]) -> Tally {
     let mut net = [0u32; 256];
     let mut other = [0u32; 256];
     let mut words = [0u32; 512];
-    sample_in(
-        t,
-        seed,
-        &mut net,
-        &mut other,
-        &mut words,
-        list,
-        buffer,
-        queue,
-    )
+    let p = draw_nets(&mut net, &mut other, seed);
+    judge_nets(t, p, &mut net, &other, &mut words, list, buffer, queue)
 }
 
 fn samples(count: u32, list: &mut [u32], buffer: &mut [u32], queue: &mut [u32]) -> Tally {
@@ -329,33 +285,43 @@ fn samples(count: u32, list: &mut [u32], buffer: &mut [u32], queue: &mut [u32]) 
 }
 
 fn say_plans(t: Tally) {
-    line(t, b"plans", CASES);
-    line(t, b"plans too large to count", OVER);
-    line(t, b"second plans of a net", TWO_PLANS);
-    line(t, b"with bindings", SOME);
-    line(t, b"bindings", LISTED);
-    line(t, b"tries", TRIES);
-    io::write_all(1, b"\nplans by kind\n");
-    line(t, b"no variables", NO_VARIABLES);
-    line(t, b"match first", MATCH_FIRST);
-    line(t, b"solve first", SOLVE_FIRST);
-    line(t, b"range first", RANGE_FIRST);
-    line(t, b"range only", RANGE_ONLY);
+    lines(
+        t,
+        b"plans
+plans too large to count
+second plans of a net
+with bindings
+bindings
+tries
+",
+        CASES,
+    );
 }
 
 fn say_kinds(t: Tally) {
-    line(t, b"repeated lone variable in a matched arc", REPEATED);
-    line(t, b"constant in a matched arc", CONSTANT);
-    line(t, b"operators in a matched arc", OPERATOR);
-    line(t, b"empty place of a matched arc", EMPTY);
-    line(t, b"match in vain", MATCH_LOST);
-    line(t, b"solve in vain", SOLVE_LOST);
-    line(t, b"coefficient 0", ZERO);
-    line(t, b"coefficient that is no constant", VARYING);
-    line(t, b"negative value in a binding", NEGATIVE);
-    line(t, b"a binding met more than once", AGAIN);
-    line(t, b"bindings met out of order", UNORDERED);
-    line(t, b"two transitions", BESIDE);
+    io::write_all(1, b"\nplans by kind\n");
+    lines(
+        t,
+        b"no variables
+match first
+solve first
+range first
+range only
+repeated lone variable in a matched arc
+constant in a matched arc
+operators in a matched arc
+empty place of a matched arc
+match in vain
+solve in vain
+coefficient 0
+coefficient that is no constant
+negative value in a binding
+a binding met more than once
+bindings met out of order
+two transitions
+",
+        NO_VARIABLES,
+    );
 }
 
 pub fn all(list: &mut [u32], buffer: &mut [u32], queue: &mut [u32]) {

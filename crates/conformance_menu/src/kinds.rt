@@ -27,18 +27,18 @@ use conformance_report::tally::add;
 use conformance_report::tally::add_if;
 use std::num::wrapping_add_u32;
 
-// Transitions with their markings.
+// Kinds, in the order in which they are printed. The first are transitions with their markings.
 pub const CASES: usize = 17;
 
 pub const OVER: usize = 18;
 
 pub const TWO_PLANS: usize = 19;
 
-pub const LISTED: usize = 20;
+pub const SOME: usize = 20;
 
-pub const TRIES: usize = 21;
+pub const LISTED: usize = 21;
 
-pub const SOME: usize = 22;
+pub const TRIES: usize = 22;
 
 pub const NO_VARIABLES: usize = 23;
 
@@ -58,15 +58,15 @@ pub const OPERATOR: usize = 30;
 
 pub const EMPTY: usize = 31;
 
-pub const NEGATIVE: usize = 32;
+pub const MATCH_LOST: usize = 32;
 
-pub const ZERO: usize = 33;
+pub const SOLVE_LOST: usize = 33;
 
-pub const VARYING: usize = 34;
+pub const ZERO: usize = 34;
 
-pub const MATCH_LOST: usize = 35;
+pub const VARYING: usize = 35;
 
-pub const SOLVE_LOST: usize = 36;
+pub const NEGATIVE: usize = 36;
 
 pub const AGAIN: usize = 37;
 
@@ -247,18 +247,27 @@ fn before(a: Slots, b: Slots) -> bool {
     false
 }
 
+// One more enabled binding.
+fn with_binding(m: Met, b: Slots) -> Met {
+    let last = m.last;
+    let rises = m.count == 0 || before(last, b);
+    Met {
+        count: wrapping_add_u32(m.count, 1),
+        rising: m.rising && rises,
+        last: b,
+    }
+}
+
 // An arrival in the queue of the tries.
 fn meet(net: &[u32], s: Shape, c: Counts, m: Met, a: Arrival) -> Met {
     let b = a.binding;
-    if a.element < s.elements || !is_enabled(net, s, c, b) {
+    if a.element < s.elements {
         return m;
     }
-    let last = m.last;
-    Met {
-        count: wrapping_add_u32(m.count, 1),
-        rising: m.rising && (m.count == 0 || before(last, b)),
-        last: b,
+    if is_enabled(net, s, c, b) {
+        return with_binding(m, b);
     }
+    m
 }
 
 // The enabled bindings among all arrivals.

@@ -12,7 +12,7 @@ use conformance_plain::build::write;
 use conformance_plain::counts::MOST_CELLS;
 use conformance_plain::counts::counts_of;
 use conformance_plain::counts::first_cell;
-use conformance_plain::reading::get;
+use conformance_plain::reading::Shape;
 use conformance_plain::reading::place_count;
 use conformance_plain::reading::shape_of;
 use conformance_plain::reading::wide;
@@ -28,8 +28,13 @@ use conformance_report::tally::Tally;
 use conformance_report::tally::add;
 use conformance_report::tally::answers;
 use conformance_report::tally::end;
-use conformance_report::tally::line;
+use conformance_report::tally::lines;
 use conformance_report::tally::none;
+
+// Too many bindings, or too many colours, for the lister.
+fn is_large(net: &[u32], s: Shape) -> bool {
+    MOST < tuples(net, s.ranges, s.variables) || MOST_CELLS < first_cell(net, place_count(net))
+}
 
 // The lister and the count of tries on an accepted input.
 fn hold(
@@ -42,50 +47,75 @@ fn hold(
     queue: &mut [u32],
 ) -> Tally {
     let s = shape_of(net, transition);
-    if MOST < tuples(net, s.ranges, s.variables) || MOST_CELLS < first_cell(net, place_count(net)) {
+    if is_large(net, s) {
         return add(t, OVER, 1);
     }
     let l = list_all(net, s, counts_of(net, marking), list);
-    compare_net(t, net, transition, marking, list, l, buffer, queue)
+    compare_net(t, net, transition, marking, list, l, buffer, queue, false)
 }
 
-// One case: the numbers of the call, and those of the answer.
+// The numbers of a call.
+struct Call {
+    transition: u32,
+    budget: u32,
+    room: usize,
+}
+
+fn call_of(text: &[u8]) -> Call {
+    let mut c = [0u32; 3];
+    write(&mut c, 0, text);
+    Call {
+        transition: c[0],
+        budget: c[1],
+        room: wide(c[2]),
+    }
+}
+
+// The numbers of an answer, with the number of words that are due.
+fn due_of(text: &[u8], words: usize) -> Due {
+    let mut a = [0u32; 4];
+    write(&mut a, 0, text);
+    Due {
+        number: a[0],
+        position: wide(a[1]),
+        count: a[2],
+        tries: a[3],
+        words: words,
+    }
+}
+
+// Whether an answer is a refusal for the input.
+fn is_refused(number: u32) -> bool {
+    0 < number && number < 10
+}
+
+// One case.
 fn run(
     t: Tally,
     net: &[u32],
     marking: &[u32],
-    call: &[u32],
-    answer: &[u32],
+    c: Call,
+    d: Due,
     due: &[u32],
     list: &mut [u32],
     buffer: &mut [u32],
     queue: &mut [u32],
 ) -> Tally {
-    let transition = get(call, 0);
-    let number = get(answer, 0);
-    let d = Due {
-        number: number,
-        position: wide(get(answer, 1)),
-        count: get(answer, 2),
-        tries: get(answer, 3),
-        words: due.len(),
-    };
-    let room = wide(get(call, 2));
     let told = compare(
         t,
         net,
-        transition,
+        c.transition,
         marking,
-        get(call, 1),
-        room,
+        c.budget,
+        c.room,
         d,
         due,
         buffer,
     );
-    if 0 < number && number < 10 {
+    if is_refused(d.number) {
         return told;
     }
-    hold(told, net, transition, marking, list, buffer, queue)
+    hold(told, net, c.transition, marking, list, buffer, queue)
 }
 
 // One case from its fields.
@@ -93,7 +123,7 @@ fn run_fields(
     t: Tally,
     net: &[u8],
     marking: &[u8],
-    call: &[u8],
+    numbers: &[u8],
     answer: &[u8],
     due: &[u8],
     list: &mut [u32],
@@ -102,20 +132,16 @@ fn run_fields(
 ) -> Tally {
     let mut n = [0u32; 128];
     let mut m = [0u32; 64];
-    let mut c = [0u32; 3];
-    let mut a = [0u32; 4];
     let mut d = [0u32; 64];
     let n_end = write(&mut n, 0, net);
     let m_end = write(&mut m, 0, marking);
     let d_end = write(&mut d, 0, due);
-    write(&mut c, 0, call);
-    write(&mut a, 0, answer);
     run(
         t,
         front(&n, n_end),
         front(&m, m_end),
-        &c,
-        &a,
+        call_of(numbers),
+        due_of(answer, d_end),
         front(&d, d_end),
         list,
         buffer,
@@ -168,13 +194,15 @@ fn run_lines(text: &[u8], list: &mut [u32], buffer: &mut [u32], queue: &mut [u32
     t
 }
 
+fn say(t: Tally) {
+    lines(t, b"accepted\ntoo large to list", CASES);
+    answers(t, b"found");
+    end(t);
+}
+
 pub fn all(list: &mut [u32], buffer: &mut [u32], queue: &mut [u32]) {
     let mut text = [0u8; 65536];
     let n = io::read_full(0, &mut text);
     heading(b"Examples of document 01 and outside cases");
-    let t = run_lines(part(&text, 0, n), list, buffer, queue);
-    line(t, b"accepted", CASES);
-    line(t, b"too large to list", OVER);
-    answers(t, b"found");
-    end(t);
+    say(run_lines(part(&text, 0, n), list, buffer, queue));
 }

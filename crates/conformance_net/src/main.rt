@@ -1,34 +1,18 @@
-// Prints what the calls check and split answer on nets, good and damaged in one place, a line for each case. What each line has to say was worked
-// out from document 01 and stands in the file stdout beside this folder.
+// Prints what the calls check and split answer on nets, good and damaged in one place, a line for each case. The cases stand in the file stdin beside
+// this folder. What each line has to say was worked out from document 01 and stands in the file stdout.
 
-// Nets that end early.
-mod ends;
 // Nets of 16,384 words.
 mod length;
-// Limits of numbers.
-mod limits;
 // Nets for the cases.
 mod nets;
-// Which refusal goes first.
-mod order;
-// Outside cases.
-mod outside;
-// Plans.
-mod plans;
 // Lines of the output.
 mod report;
+// Cases by their forms.
+mod forms;
 // Tables of cases.
 mod table;
-// Words, wrong kinds and stray bits.
-mod words;
 
 fn main() {
     io::write_all(1, b"conformance of check and split with document 01\n");
-    words::all();
-    limits::all();
-    ends::all();
-    order::all();
-    plans::all();
-    length::all();
-    outside::all();
+    table::all();
 }

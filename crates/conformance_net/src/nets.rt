@@ -7,6 +7,33 @@ use conformance_plain::build::repeat;
 use conformance_plain::build::write;
 use std::num::wrapping_add_u32;
 
+// Words 0 to 9 of the good net.
+fn good_heads(words: &mut [u32]) -> usize {
+    write(
+        words,
+        0,
+        b"1:201 2:1 3:FFFC002 2:2 3:3 3:4004 4:32123 3:3 3:4 3:8005",
+    )
+}
+
+// Words 10 to 22.
+fn good_arcs(words: &mut [u32], at: usize) -> usize {
+    write(
+        words,
+        at,
+        b"5:0 7:1 8:0 5:1 9:2 8:2 7:1 8:1 8:0 5:0 7:2 9:4 8:2",
+    )
+}
+
+// Words 23 to 33.
+fn good_guard(words: &mut [u32], at: usize) -> usize {
+    write(
+        words,
+        at,
+        b"6:0 8:1 9:0 8:0 7:1 6:3 8:0 7:3FFF A:0 A:100 A:202",
+    )
+}
+
 // The good net, 34 words. Its positions:
 //    0 NET, two places and one transition
 //    1 PLACE of one component, RANGE; 3 PLACE of two, RANGE, RANGE
@@ -15,12 +42,9 @@ use std::num::wrapping_add_u32;
 //   23 CONJUNCT y = x + 1; 28 CONJUNCT x <= -1
 //   31 ELEMENTs: match input 0, solve conjunct 0, range z
 pub fn good(words: &mut [u32]) -> usize {
-    let places = write(words, 0, b"1:201 2:1 3:FFFC002 2:2 3:3 3:4004");
-    let variables = write(words, places, b"4:32123 3:3 3:4 3:8005");
-    let inputs = write(words, variables, b"5:0 7:1 8:0 5:1 9:2 8:2 7:1 8:1 8:0");
-    let outputs = write(words, inputs, b"5:0 7:2 9:4 8:2");
-    let guard = write(words, outputs, b"6:0 8:1 9:0 8:0 7:1 6:3 8:0 7:3FFF");
-    write(words, guard, b"A:0 A:100 A:202")
+    let arcs = good_heads(words);
+    let guard = good_arcs(words, arcs);
+    good_guard(words, guard)
 }
 
 // The first n words of the good net with other words at two positions.

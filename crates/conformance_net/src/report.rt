@@ -71,11 +71,16 @@ pub fn line(name: &[u8], more: &[u8], words: &[u32]) {
     io::write_all(1, b"\n");
 }
 
-// A case on the first n words of a buffer: alone, and then with two words after them, a TOKEN and a VALUE.
+// A TOKEN and a VALUE.
+fn put_two(words: &mut [u32], at: usize) -> usize {
+    let next = put(words, at, 0xB000_0014);
+    put(words, next, 0xC000_0000)
+}
+
+// A case on the first n words of a buffer: alone, and then with two words after them.
 pub fn case(name: &[u8], words: &mut [u32], n: usize) {
     line(name, b"", front(words, n));
-    let next = put(words, n, 0xB000_0014);
-    let end = put(words, next, 0xC000_0000);
+    let end = put_two(words, n);
     line(name, b", then 2 words", front(words, end));
 }
 
@@ -109,6 +114,13 @@ fn say_words(words: &[u32]) {
     }
 }
 
+// All words that split handed back, and the line's end.
+fn say_rest(part: &[u32]) {
+    io::write_all(1, b", rest:");
+    say_words(part);
+    io::write_all(1, b"\n");
+}
+
 // A line: the case's name, and what split answers, with all words that it handed back.
 pub fn split_line(name: &[u8], words: &[u32]) {
     let mut refusal = 99;
@@ -117,9 +129,7 @@ pub fn split_line(name: &[u8], words: &[u32]) {
     io::write_all(1, name);
     io::write_all(1, b" | split");
     say_numbers(refusal, position);
-    io::write_all(1, b", rest:");
-    say_words(part);
-    io::write_all(1, b"\n");
+    say_rest(part);
 }
 
 // A heading.

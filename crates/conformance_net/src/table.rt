@@ -1,108 +1,20 @@
-// Tables of cases, a line each: its name, ` | ` and words, from which the form of the table makes a net.
-use crate::nets::counted;
-use crate::nets::damaged;
-use crate::nets::headed;
-use crate::nets::kinds;
-use crate::nets::stray;
-use crate::report::check_line;
-use crate::report::split_line;
-use conformance_plain::build::front;
-use conformance_plain::build::write;
-use conformance_plain::reading::wide;
+// Tables of cases, read from standard input. A line `== ` is a heading. A line `* ` and a form says what the words of the cases under it are; the
+// form's first letter tells it. Any other line is a case: its name, ` | ` and words, from which the form makes a net.
+use crate::forms::run;
+use crate::report::heading;
 use conformance_plain::text::after;
 use conformance_plain::text::find;
 use conformance_plain::text::part;
 
-// What the words after a name are.
-pub enum Form {
-    // a position of the good net and its new word
-    Replaced,
-    // the same twice, and the number of words
-    Twice,
-    // the number of words of the good net
-    Cut,
-    // a position of the good net and the bits below the kind
-    Kinds,
-    // a position of the good net, its word, the lowest bit to set and the number of bits
-    Stray,
-    // a NET word and the numbers of places and of transitions
-    Counted,
-    // a net
-    Literal,
-    // the transition, from word 6 on, of a net with two places, of one component and of two, each from 0 to 9
-    Transition,
-    // the two transitions of such a net
-    Transitions,
-    // the words of an outside case of check
-    Check,
-    // the words of an outside case of split
-    Split,
-}
-
-// The cases whose words are numbers.
-fn run_numbers(form: Form, name: &[u8], text: &[u8]) {
-    let mut a = [0u32; 8];
-    write(&mut a, 0, text);
-    match form {
-        Form::Replaced => {
-            damaged(name, wide(a[0]), a[1], wide(a[0]), a[1], 34);
-        }
-        Form::Twice => {
-            damaged(name, wide(a[0]), a[1], wide(a[2]), a[3], wide(a[4]));
-        }
-        Form::Cut => {
-            damaged(name, 0, 0x1000_0201, 0, 0x1000_0201, wide(a[0]));
-        }
-        Form::Kinds => {
-            kinds(name, wide(a[0]), a[1]);
-        }
-        Form::Stray => {
-            stray(name, wide(a[0]), a[1], a[2], wide(a[3]));
-        }
-        _ => {
-            counted(name, a[0], wide(a[1]), wide(a[2]));
-        }
+fn byte_at(text: &[u8], at: usize) -> u8 {
+    if at < text.len() {
+        return text[at];
     }
+    0
 }
 
-fn check_case(name: &[u8], text: &[u8]) {
-    let mut words = [0u32; 128];
-    let n = write(&mut words, 0, text);
-    check_line(name, front(&words, n));
-}
-
-fn split_case(name: &[u8], text: &[u8]) {
-    let mut words = [0u32; 128];
-    let n = write(&mut words, 0, text);
-    split_line(name, front(&words, n));
-}
-
-// One case.
-fn run(form: Form, name: &[u8], text: &[u8]) {
-    match form {
-        Form::Literal => {
-            headed(name, b"", text);
-        }
-        Form::Transition => {
-            headed(name, b"1:201 2:1 3:9 2:2 3:9 3:9", text);
-        }
-        Form::Transitions => {
-            headed(name, b"1:202 2:1 3:9 2:2 3:9 3:9", text);
-        }
-        Form::Check => {
-            check_case(name, text);
-        }
-        Form::Split => {
-            split_case(name, text);
-        }
-        _ => {
-            run_numbers(form, name, text);
-        }
-    }
-}
-
-// The line at a position: its name ends a space before the bar, its words begin a space after it.
-fn run_line(form: Form, text: &[u8], at: usize, end: usize) {
+// The case at a position: its name ends a space before the bar, its words begin a space after it.
+fn run_case(form: u8, text: &[u8], at: usize, end: usize) {
     let bar = find(text, at, b'|');
     if 0 < bar {
         let name = part(text, at, bar - 1);
@@ -110,17 +22,40 @@ fn run_line(form: Form, text: &[u8], at: usize, end: usize) {
     }
 }
 
-// Each line of a table, which begins with a line's end.
-pub fn table(form: Form, text: &[u8]) {
+// The line at a position; answers the form of the cases under it.
+fn run_line(form: u8, text: &[u8], at: usize, end: usize) -> u8 {
+    match byte_at(text, at) {
+        b'=' => {
+            heading(part(text, after(text, at, 3), end));
+            form
+        }
+        b'*' => byte_at(text, after(text, at, 2)),
+        _ => {
+            run_case(form, text, at, end);
+            form
+        }
+    }
+}
+
+// Each line of a text.
+fn lines(text: &[u8]) {
     let mut left = text.len();
-    let mut at = after(text, 0, 1);
+    let mut form = b'w';
+    let mut at = 0;
     while 0 < left {
         if text.len() <= at {
             return;
         }
         let end = find(text, at, b'\n');
-        run_line(form, text, at, end);
+        form = run_line(form, text, at, end);
         at = after(text, end, 1);
         left -= 1;
     }
+}
+
+// All of standard input.
+pub fn all() {
+    let mut text = [0u8; 65536];
+    let n = io::read_full(0, &mut text);
+    lines(part(&text, 0, n));
 }

@@ -2,7 +2,6 @@
 use conformance_plain::build::front;
 use conformance_plain::build::write;
 use text::put::put_byte;
-use text::put::put_bytes;
 
 // The four bytes of a word, the least significant first.
 fn put_word(bytes: &mut [u8], at: usize, w: u32) -> usize {
@@ -23,6 +22,17 @@ fn put_words(bytes: &mut [u8], words: &[u32]) -> usize {
     next
 }
 
+// Spare bytes, a number each.
+fn put_spare(bytes: &mut [u8], at: usize, spare: &[u32]) -> usize {
+    let mut next = at;
+    let mut i = 0;
+    while i < spare.len() {
+        next = put_byte(bytes, next, (spare[i] % 256) as u8);
+        i += 1;
+    }
+    next
+}
+
 // The first n bytes, or all where there are fewer.
 fn first_bytes(bytes: &[u8], n: usize) -> &[u8] {
     if bytes.len() < n {
@@ -31,25 +41,24 @@ fn first_bytes(bytes: &[u8], n: usize) -> &[u8] {
     &bytes[0..n]
 }
 
-// The name of an input, and what is printed for its words and spare bytes.
-pub fn show(name: &[u8], words: &[u32], spare: &[u8]) {
-    let mut bytes = [0u8; 65600];
-    let next = put_words(&mut bytes, words);
-    let end = put_bytes(&mut bytes, next, spare);
+fn heading(name: &[u8]) {
     io::write_all(1, b"-- ");
     io::write_all(1, name);
     io::write_all(1, b"\n");
+}
+
+// The name of an input, and what is printed for its words and spare bytes.
+pub fn show(name: &[u8], words: &[u32], spare: &[u32]) {
+    let mut bytes = [0u8; 65600];
+    let next = put_words(&mut bytes, words);
+    let end = put_spare(&mut bytes, next, spare);
+    heading(name);
     printing::write_printed(first_bytes(&bytes, end));
 }
 
 // The same, the words being written as text.
-pub fn spare_case(name: &[u8], text: &[u8], spare: &[u8]) {
+pub fn short(name: &[u8], text: &[u8], spare: &[u32]) {
     let mut words = [0u32; 256];
     let end = write(&mut words, 0, text);
     show(name, front(&words, end), spare);
-}
-
-// The same without spare bytes.
-pub fn case(name: &[u8], text: &[u8]) {
-    spare_case(name, text, b"");
 }

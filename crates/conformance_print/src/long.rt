@@ -3,7 +3,15 @@ use crate::input::show;
 use conformance_plain::build::front;
 use conformance_plain::build::put;
 use conformance_plain::build::write;
+use conformance_plain::reading::wide;
 use std::num::wrapping_add_u32;
+
+// A number from a text.
+fn number(text: &[u8]) -> usize {
+    let mut a = [0u32; 1];
+    write(&mut a, 0, text);
+    wide(a[0])
+}
 
 // Entries of count 1 of place 0 with the colours -8192, -8191 and on.
 fn entries(words: &mut [u32], at: usize, count: usize) {
@@ -18,19 +26,10 @@ fn entries(words: &mut [u32], at: usize, count: usize) {
     }
 }
 
-// The first n words and some spare bytes.
-fn long(name: &[u8], n: usize, spare: &[u8]) {
+// The first of these words, as many as a text says, and some spare bytes.
+pub fn long(name: &[u8], text: &[u8], spare: &[u32]) {
     let mut words = [0u32; 16388];
     let first = write(&mut words, 0, b"1:101 2:1 3:8001FFF 4:0");
     entries(&mut words, first, 8192);
-    show(name, front(&words, n), spare);
-}
-
-pub fn all() {
-    long(b"65536 bytes: a marking of 16380 words", 16384, b"");
-    long(b"7: 65532 bytes, the marking ends early", 16383, b"");
-    long(b"2: 65535 bytes", 16383, b"\x00\x00\x00");
-    long(b"1: 65537 bytes", 16384, b"\x00");
-    long(b"1: 65539 bytes", 16384, b"\x00\x00\x00");
-    long(b"1: 65540 bytes", 16385, b"");
+    show(name, front(&words, number(text)), spare);
 }

@@ -1,4 +1,8 @@
 // Numbers of cases by kind. Refusals stand at their numbers, cases without one at 0; from 17 on each program has kinds of its own.
+use conformance_plain::reading::plus;
+use conformance_plain::text::after;
+use conformance_plain::text::find;
+use conformance_plain::text::part;
 use std::num::wrapping_add_u32;
 
 // How many there are of each kind, and how many comparisons showed a difference.
@@ -56,6 +60,23 @@ fn say(t: Tally, k: usize) {
 pub fn line(t: Tally, name: &[u8], k: usize) {
     io::write_all(1, name);
     say(t, k);
+}
+
+// A line for each name of a text, whose names stand on lines of their own, with the numbers of the kinds from the first on.
+pub fn lines(t: Tally, names: &[u8], first: usize) {
+    let mut left = names.len();
+    let mut k = first;
+    let mut at = 0;
+    while 0 < left {
+        if names.len() <= at {
+            return;
+        }
+        let end = find(names, at, b'\n');
+        line(t, part(names, at, end), k);
+        k = plus(k, 1);
+        at = after(names, end, 1);
+        left -= 1;
+    }
 }
 
 // The cases refused with a number, where there are some.

@@ -17,13 +17,13 @@ use run::run::run;
 use semantics::Outcome;
 
 // Picks that were done.
-pub const DONE: usize = 18;
+pub const DONE: usize = 19;
 
 // Runs in which two picks and more were done.
-pub const SEVERAL: usize = 19;
+pub const SEVERAL: usize = 20;
 
 // Runs that were refused for the state after a pick was done.
-pub const LATER: usize = 20;
+pub const LATER: usize = 21;
 
 // The first words of a buffer.
 fn first(buffer: &mut [u32], n: usize) -> &mut [u32] {
@@ -110,6 +110,38 @@ fn counted(t: Tally, d: Outcome) -> Tally {
     add_if(c, LATER, 0 < d.done && d.refusal != 0)
 }
 
+// Whether the answer and the buffer are what is due, and spare and menu left as they have to be.
+fn is_same(
+    o: Outcome,
+    d: Outcome,
+    g: Given,
+    buffer: &[u32],
+    after: &[u32],
+    spare: &[u32],
+    menu: &[u32],
+    cleared: bool,
+) -> bool {
+    if !same_answer(o, d) {
+        return false;
+    }
+    if !same_words(buffer, after, 1600) {
+        return false;
+    }
+    is_left(spare, g.spare, cleared) && is_left(menu, g.menu, cleared)
+}
+
+// What the call left.
+fn say_left(o: Outcome, g: Given, buffer: &[u32], spare: &[u32], menu: &[u32]) {
+    say_answer(b"\nrun: ", o, g, buffer);
+    say_rest(spare, menu, g);
+}
+
+// The input, and what is due.
+fn say_case(net: &[u32], g: Given, before: &[u32], picks: &[u32], d: Outcome, after: &[u32]) {
+    say_input(net, g, before, picks);
+    say_answer(b"\ndue: ", d, g, after);
+}
+
 // One call of run against the answer that is due, the buffer as it has to be left, and whether spare and menu have to be cleared.
 pub fn compare(
     t: Tally,
@@ -128,15 +160,13 @@ pub fn compare(
     fill(&mut spare);
     fill(&mut menu);
     let o = call(net, g, &mut buffer, &mut spare, &mut menu, picks);
-    let left = is_left(&spare, g.spare, cleared) && is_left(&menu, g.menu, cleared);
-    if same_answer(o, d) && same_words(&buffer, after, 1600) && left {
-        return counted(t, d);
+    let told = counted(t, d);
+    if is_same(o, d, g, &buffer, after, &spare, &menu, cleared) {
+        return told;
     }
     if t.different == 0 {
-        say_input(net, g, before, picks);
-        say_answer(b"\ndue: ", d, g, after);
-        say_answer(b"\nrun: ", o, g, &buffer);
-        say_rest(&spare, &menu, g);
+        say_case(net, g, before, picks, d, after);
+        say_left(o, g, &buffer, &spare, &menu);
     }
-    differ(counted(t, d))
+    differ(told)
 }

@@ -1,7 +1,4 @@
 // Drawn runs: a net of one to three transitions with their plans, a marking, picks, a budget and buffers, some of them damaged or short.
-use crate::compare::DONE;
-use crate::compare::LATER;
-use crate::compare::SEVERAL;
 use crate::compare::compare;
 use crate::plain::Given;
 use crate::plain::TOO_LARGE;
@@ -39,22 +36,22 @@ use conformance_report::tally::add;
 use conformance_report::tally::add_if;
 use conformance_report::tally::answers;
 use conformance_report::tally::end;
-use conformance_report::tally::line;
+use conformance_report::tally::lines;
 use conformance_report::tally::none;
 use std::num::wrapping_add_u32;
 use std::num::wrapping_sub_u32;
 
-// All runs.
+// All runs. The kinds are printed from here on, in turn, those of `compare` among them.
 const RUNS: usize = 17;
+
+// Runs whose plans have more tries than are counted; they are left out.
+const LARGE: usize = 18;
 
 // Runs without picks.
 const NO_PICKS: usize = 22;
 
 // Runs whose spare is shorter than their buffer.
 const SHORT_SPARE: usize = 23;
-
-// Runs whose plans have more tries than are counted; they are left out.
-const LARGE: usize = 24;
 
 // Transitions with their plans.
 fn transitions(net: &mut [u32], d: Draft, places: u32, count: u32) -> Draft {
@@ -321,13 +318,18 @@ fn samples(count: u32) -> Tally {
 pub fn all() {
     heading(b"Runs drawn of 6000 nets and markings");
     let t = samples(6000);
-    line(t, b"runs", RUNS);
-    line(t, b"with too many tries to count, left out", LARGE);
-    line(t, b"picks done", DONE);
-    line(t, b"two picks done and more", SEVERAL);
-    line(t, b"refused after a pick was done", LATER);
-    line(t, b"no picks", NO_PICKS);
-    line(t, b"spare shorter than buffer", SHORT_SPARE);
+    lines(
+        t,
+        b"runs
+with too many tries to count, left out
+picks done
+two picks done and more
+refused after a pick was done
+no picks
+spare shorter than buffer
+",
+        RUNS,
+    );
     io::write_all(1, b"\nruns by how they end\n");
     answers(t, b"no refusal");
     end(t);

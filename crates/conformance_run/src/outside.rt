@@ -9,7 +9,6 @@ use crate::plain::run_plainly;
 use conformance_plain::build::copy;
 use conformance_plain::build::front;
 use conformance_plain::build::write;
-use conformance_plain::reading::get;
 use conformance_plain::reading::wide;
 use conformance_plain::text::after;
 use conformance_plain::text::bar_after;
@@ -29,7 +28,7 @@ use conformance_report::tally::none;
 use semantics::Outcome;
 
 // Cases that were held against the plain run.
-const PLAIN: usize = 21;
+const PLAIN: usize = 24;
 
 // The plain run against the answer that is due.
 fn hold_plain(
@@ -53,36 +52,65 @@ fn hold_plain(
     differ(counted)
 }
 
-// One case: the numbers of the call and of the answer.
+// Whether a run is refused for its net.
+fn is_net_refused(number: u32) -> bool {
+    0 < number && number < 6
+}
+
+// One case.
 fn hold(
     t: Tally,
     net: &[u32],
-    length: usize,
+    g: Given,
     before: &[u32],
-    call: &[u32],
     picks: &[u32],
-    answer: &[u32],
+    d: Outcome,
     due: &[u32],
     cleared: bool,
 ) -> Tally {
-    let g = Given {
-        budget: get(call, 0),
-        m: wide(get(call, 1)),
-        buffer: length,
-        spare: wide(get(call, 2)),
-        menu: wide(get(call, 3)),
-    };
-    let d = Outcome {
-        done: wide(get(answer, 0)),
-        refusal: get(answer, 1),
-        position: wide(get(answer, 2)),
-        length: wide(get(answer, 3)),
-    };
     let told = compare(t, net, g, before, picks, d, due, cleared);
-    if 0 < d.refusal && d.refusal < 6 {
+    if is_net_refused(d.refusal) {
         return told;
     }
     hold_plain(told, net, g, before, picks, d, due, cleared)
+}
+
+// The numbers of a call, with the buffer's length.
+fn given_of(text: &[u8], length: usize) -> Given {
+    let mut c = [0u32; 4];
+    write(&mut c, 0, text);
+    Given {
+        budget: c[0],
+        m: wide(c[1]),
+        buffer: length,
+        spare: wide(c[2]),
+        menu: wide(c[3]),
+    }
+}
+
+// The numbers of an answer.
+fn answer_of(text: &[u8]) -> Outcome {
+    let mut a = [0u32; 4];
+    write(&mut a, 0, text);
+    Outcome {
+        done: wide(a[0]),
+        refusal: a[1],
+        position: wide(a[2]),
+        length: wide(a[3]),
+    }
+}
+
+// Whether both numbers are 1: spare and menu are cleared.
+fn is_cleared(text: &[u8]) -> bool {
+    let mut z = [0u32; 2];
+    write(&mut z, 0, text);
+    z[0] == 1 && z[1] == 1
+}
+
+// The words of a buffer, which holds something else after them.
+fn write_filled(words: &mut [u32], text: &[u8]) -> usize {
+    fill(words);
+    write(words, 0, text)
 }
 
 // One case from its fields.
@@ -98,30 +126,21 @@ fn hold_fields(
 ) -> Tally {
     let mut n = [0u32; 128];
     let mut b = [0u32; 1600];
-    let mut c = [0u32; 4];
     let mut p = [0u32; 16];
-    let mut a = [0u32; 4];
     let mut d = [0u32; 1600];
-    let mut z = [0u32; 2];
-    fill(&mut b);
-    fill(&mut d);
     let n_end = write(&mut n, 0, net);
-    let b_end = write(&mut b, 0, buffer);
+    let b_end = write_filled(&mut b, buffer);
     let p_end = write(&mut p, 0, picks);
-    write(&mut c, 0, call);
-    write(&mut a, 0, answer);
-    write(&mut d, 0, due);
-    write(&mut z, 0, cleared);
+    write_filled(&mut d, due);
     hold(
         t,
         front(&n, n_end),
-        b_end,
+        given_of(call, b_end),
         &b,
-        &c,
         front(&p, p_end),
-        &a,
+        answer_of(answer),
         &d,
-        get(&z, 0) == 1 && get(&z, 1) == 1,
+        is_cleared(cleared),
     )
 }
 

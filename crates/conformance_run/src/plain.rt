@@ -2,6 +2,7 @@
 use conformance_lister::counting::count_tries;
 use conformance_lister::flow::give_outputs;
 use conformance_lister::flow::take_inputs;
+use conformance_lister::lister::Listing;
 use conformance_lister::lister::list_all;
 use conformance_plain::build::front;
 use conformance_plain::build::put;
@@ -131,21 +132,30 @@ fn room(g: Given) -> usize {
     g.spare
 }
 
-// The step of an enabled binding.
-fn step(net: &[u32], g: Given, st: State, s: Shape, b: Slots) -> State {
+// What stops a run at the counts after a step, or 0.
+fn judge_step(net: &[u32], g: Given, after: Counts) -> u32 {
     let mut words = [0u32; 1600];
-    let before = st.counts;
-    let after = give_outputs(net, s, take_inputs(net, s, before, b), b);
     let cells = after.cells;
     if !after.good {
-        return stopped(st, 14);
+        return 14;
     }
     if is_over(&cells) {
-        return stopped(st, 15);
+        return 15;
     }
     let length = put_marking(&mut words, net, &cells);
     if room(g) < length || 16384 < length {
-        return stopped(st, 16);
+        return 16;
+    }
+    0
+}
+
+// The step of an enabled binding.
+fn step(net: &[u32], g: Given, st: State, s: Shape, b: Slots) -> State {
+    let before = st.counts;
+    let after = give_outputs(net, s, take_inputs(net, s, before, b), b);
+    let number = judge_step(net, g, after);
+    if number != 0 {
+        return stopped(st, number);
     }
     State {
         done: wrapping_add_usize(st.done, 1),
@@ -175,26 +185,49 @@ fn binding_at(list: &[u32], s: Shape, index: u32) -> Slots {
     )
 }
 
-// One pick.
-fn take_pick(net: &[u32], g: Given, st: State, w: u32) -> State {
-    let mut list = [0u32; 2400];
-    let s = shape_of(net, transition_of(w));
-    let before = st.counts;
-    let tries = tries_of(net, s, before);
+// What stops a run at the tries of a plan, or 0.
+fn judge_tries(g: Given, tries: u64) -> u32 {
     if 0xFFFF_FFFF < tries {
-        return stopped(st, TOO_LARGE);
+        return TOO_LARGE;
     }
     if (g.budget as u64) < tries {
-        return stopped(st, 10);
+        return 10;
     }
-    let l = list_all(net, s, before, &mut list);
+    0
+}
+
+// What stops a run at a list, of which the binding at an index is picked, or 0.
+fn judge_list(g: Given, l: Listing, index: u32) -> u32 {
     if 16383 < l.count || g.menu < l.words {
-        return stopped(st, 11);
+        return 11;
     }
-    if l.count <= w % 0x4000 {
-        return stopped(st, 12);
+    if l.count <= index {
+        return 12;
     }
-    step(net, g, st, s, binding_at(&list, s, w % 0x4000))
+    0
+}
+
+// A pick whose tries are within the budget.
+fn take_binding(net: &[u32], g: Given, st: State, s: Shape, index: u32) -> State {
+    let mut list = [0u32; 2400];
+    let before = st.counts;
+    let l = list_all(net, s, before, &mut list);
+    let number = judge_list(g, l, index);
+    if number != 0 {
+        return stopped(st, number);
+    }
+    step(net, g, st, s, binding_at(&list, s, index))
+}
+
+// One pick.
+fn take_pick(net: &[u32], g: Given, st: State, w: u32) -> State {
+    let s = shape_of(net, transition_of(w));
+    let before = st.counts;
+    let number = judge_tries(g, tries_of(net, s, before));
+    if number != 0 {
+        return stopped(st, number);
+    }
+    take_binding(net, g, st, s, w % 0x4000)
 }
 
 // The picks in turn, up to the first one that stops the run.

@@ -1,4 +1,5 @@
 // What a word is, in words, by the structure that it stands in.
+use crate::lines::put_line;
 use crate::spell::put_expression;
 use crate::spell::put_operator;
 use crate::spell::put_variable;
@@ -9,6 +10,7 @@ use text::put::put_byte;
 use text::put::put_bytes;
 use word::fields::kind;
 use word::fields::payload;
+use word::size::at_most;
 ghost use Prim.Native.Nat.{_<_};
 ghost use lib.ListN.{length};
 
@@ -78,16 +80,30 @@ fn put_range(out: &mut [u8], at: usize, s: State, p: u32) -> usize {
     put_span(out, told, p)
 }
 
+// 0 for an input arc, 1 for an output arc, which stand behind the inputs.
+fn side(arc: usize, inputs: usize) -> usize {
+    if arc < inputs {
+        return 0;
+    }
+    1
+}
+
+// The number of an arc among the inputs or among the outputs.
+fn number_of(arc: usize, inputs: usize) -> usize {
+    if arc < inputs {
+        return arc;
+    }
+    arc - inputs
+}
+
 // Whether an arc is an input or an output, its number among those, and its place.
 fn put_ends(out: &mut [u8], at: usize, s: State, p: u32) -> usize {
     let inputs = (s.head / 16 % 16) as usize;
-    let arcs = s.arcs;
-    if arcs < inputs {
-        let named = put_numbered(out, at, b"input arc ", arcs);
-        return put_numbered(out, named, b" from place ", (p % 256) as usize);
-    }
-    let told = put_numbered(out, at, b"output arc ", arcs - inputs);
-    put_numbered(out, told, b" to place ", (p % 256) as usize)
+    let line = side(s.arcs, inputs);
+    let named = put_line(out, at, b"input arc \noutput arc ", line);
+    let told = put_decimal(out, named, number_of(s.arcs, inputs));
+    let ended = put_line(out, told, b" from place \n to place ", line);
+    put_decimal(out, ended, (p % 256) as usize)
 }
 
 // A comma, but not before the first of several.
@@ -127,12 +143,7 @@ fn put_arc(out: &mut [u8], at: usize, s: State, words: &[u32], i: usize, width: 
 
 // The sign of a relation.
 fn put_relation(out: &mut [u8], at: usize, code: u32) -> usize {
-    match code {
-        0 => put_bytes(out, at, b" = "),
-        1 => put_bytes(out, at, b" /= "),
-        2 => put_bytes(out, at, b" < "),
-        _ => put_bytes(out, at, b" <= "),
-    }
+    put_line(out, at, b" = \n /= \n < \n <= ", (code % 4) as usize)
 }
 
 // A conjunct with both its sides, which stand behind it.
@@ -147,15 +158,21 @@ fn put_conjunct(out: &mut [u8], at: usize, number: usize, words: &[u32], i: usiz
     right.at
 }
 
+// What an element does, by its sort.
+fn put_sort(out: &mut [u8], at: usize, sort: usize) -> usize {
+    put_line(
+        out,
+        at,
+        b", match of input arc \n, solve of conjunct \n, range of variable ",
+        at_most(sort, 2),
+    )
+}
+
 // An element of a plan.
 fn put_element(out: &mut [u8], at: usize, number: usize, p: u32) -> usize {
     let named = put_numbered(out, at, b"element ", number);
-    let n = (p % 256) as usize;
-    match p / 256 % 4 {
-        0 => put_numbered(out, named, b", match of input arc ", n),
-        1 => put_numbered(out, named, b", solve of conjunct ", n),
-        _ => put_numbered(out, named, b", range of variable ", n),
-    }
+    let told = put_sort(out, named, (p / 256 % 4) as usize);
+    put_decimal(out, told, (p % 256) as usize)
 }
 
 // The word at i.

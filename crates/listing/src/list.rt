@@ -1,5 +1,6 @@
 // The words of a net on lines of their own, up to the word that check refuses.
 use crate::describe::put_word;
+use crate::lines::put_line;
 use crate::reason::put_reason;
 use crate::state::State;
 use crate::state::after;
@@ -47,26 +48,27 @@ fn put_hex(out: &mut [u8], at: usize, w: u32) -> usize {
 // A position, in a column of seven.
 fn put_position(out: &mut [u8], i: usize) -> usize {
     let next = put_decimal(out, 0, i);
-    match next {
-        1 => put_bytes(out, next, b"      "),
-        2 => put_bytes(out, next, b"     "),
-        3 => put_bytes(out, next, b"    "),
-        4 => put_bytes(out, next, b"   "),
-        _ => put_bytes(out, next, b"  "),
+    put_line(
+        out,
+        next,
+        b"\n      \n     \n    \n   \n  ",
+        at_most(next, 5),
+    )
+}
+
+// How many levels a word of a kind stands in from the NET word.
+fn level(kind: u32) -> usize {
+    match kind {
+        1 => 0,
+        2 | 4 => 1,
+        7..=9 => 3,
+        _ => 2,
     }
 }
 
 // How far in a word of a kind stands.
 fn put_indent(out: &mut [u8], at: usize, kind: u32) -> usize {
-    match kind {
-        1 => put_bytes(out, at, b"  "),
-        2 => put_bytes(out, at, b"    "),
-        4 => put_bytes(out, at, b"    "),
-        7 => put_bytes(out, at, b"        "),
-        8 => put_bytes(out, at, b"        "),
-        9 => put_bytes(out, at, b"        "),
-        _ => put_bytes(out, at, b"      "),
-    }
+    put_line(out, at, b"  \n    \n      \n        ", level(kind))
 }
 
 // The refusal and its reason, behind the text so far, and the line's end.
