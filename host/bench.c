@@ -96,7 +96,7 @@ static double time_of(void (*call)(void), unsigned times) {
 
 static void compare(const char *what, unsigned times, void (*library)(void), void (*reference)(void)) {
     double l = time_of(library, times), r = time_of(reference, times);
-    printf("%-44s %8u calls   library %10.1f ns   reference %10.1f ns   reference / library %6.2f\n", what, times, l, r, r / l);
+    printf("%-44s %8u calls   library %10.1f ns   reference %10.1f ns   library / reference %6.2f\n", what, times, l, r, l / r);
 }
 
 /* ── Menus ── */
@@ -129,7 +129,7 @@ static void compare_menus(const char *what, unsigned times) {
         r = b < r ? b : r;
     }
     printf("%-44s %8u calls   library %10.2f ns   reference %10.2f ns", what, times, l / (double)tries, r / (double)tries);
-    printf("   reference / library %6.2f   a try; %" PRIu64 " tries, %" PRIu64 " bindings; a call: library %.0f ns, reference %.0f ns\n", r / l, tries, bindings, l, r);
+    printf("   library / reference %6.2f   a try; %" PRIu64 " tries, %" PRIu64 " bindings; a call: library %.0f ns, reference %.0f ns\n", l / r, tries, bindings, l, r);
 }
 
 static void add(struct words *w, uint32_t word) { w->at[w->length++] = word; }
