@@ -1,4 +1,4 @@
--- `crate::code::code_at` meets its contract: the digit of each word is put behind the code of the words before it.
+-- `colours::code::code_at` meets its contract: the digit of each word is put behind the code of the words before it.
 use Rattle.colours.proofs.Codes.{code-none, code-one, code-more, code-all, code-room}
 use borrow.Author.Needs.{needs}
 use native.Mathlib.Omega.{arith}

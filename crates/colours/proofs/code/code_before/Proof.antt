@@ -1,4 +1,4 @@
--- `crate::code::code_before` meets its contract: `coded-before`.
+-- `colours::code::code_before` meets its contract: `coded-before`.
 use borrow.Author.Needs.{needs}
 use Rattle.colours.proofs.Codes.{coded-before}
 use Rattle.colours.proofs.code.code_before.Statement.{statement}

@@ -1,4 +1,4 @@
--- `crate::code::code_same` meets its contract: `coded-same`.
+-- `colours::code::code_same` meets its contract: `coded-same`.
 use borrow.Author.Needs.{needs}
 use Rattle.colours.proofs.Codes.{coded-same}
 use Rattle.colours.proofs.code.code_same.Statement.{statement}

@@ -1,4 +1,4 @@
--- `crate::code::digit_of` meets its contract: `digit-signed`.
+-- `colours::code::digit_of` meets its contract: `digit-signed`.
 use Prim.Native.Nat.{_%_}
 use Rattle.colours.proofs.Codes.{digit-signed}
 use native.Mathlib.Omega.{arith}

@@ -1,4 +1,4 @@
--- `crate::code::with_digit` meets its contract: `word-behind`.
+-- `colours::code::with_digit` meets its contract: `word-behind`.
 use Rattle.colours.proofs.Codes.{word-behind}
 use borrow.Author.Needs.{needs}
 use Rattle.colours.proofs.code.with_digit.Statement.{statement}

@@ -1,4 +1,4 @@
--- `crate::order::values_before` meets its contract: the loop of `Comparing` over words and words.
+-- `colours::order::values_before` meets its contract: the loop of `Comparing` over words and words.
 use Prim.Native.Nat.{_-_}
 use Rattle.colours.proofs.Comparing.{WordsLeft, words-start, words-more, words-turn, comparing}
 use native.Mathlib.Omega.{arith}

@@ -1,4 +1,4 @@
--- `crate::range::digit_in` meets its contract: the digit of the low end, then that of the high end.
+-- `colours::range::digit_in` meets its contract: the digit of the low end, then that of the high end.
 use Rattle.colours.proofs.Ranging.{digit-below, digit-inside}
 use borrow.Author.Needs.{needs}
 use native.Mathlib.Omega.{arith}

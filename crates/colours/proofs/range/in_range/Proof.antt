@@ -1,4 +1,4 @@
--- `crate::range::in_range` meets its contract: a value of 14 bits by its digit, any other is in no range.
+-- `colours::range::in_range` meets its contract: a value of 14 bits by its digit, any other is in no range.
 use mir.Facts.{toZ-ofZ}
 use Rattle.colours.proofs.Ranging.{range-past, range-digit}
 use borrow.Author.Needs.{needs}

@@ -1,4 +1,4 @@
--- `crate::values::fits_range` meets its contract: the test of the bits, then the two ends of the range.
+-- `colours::values::fits_range` meets its contract: the test of the bits, then the two ends of the range.
 use Rattle.kinds.proofs.Taking.{tests}
 use Rattle.colours.proofs.Valuing.{value-below, value-above}
 use borrow.Author.Needs.{needs}

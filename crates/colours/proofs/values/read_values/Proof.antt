@@ -1,4 +1,4 @@
--- `crate::values::read_values` meets its contract: the loop of `Valuing`.
+-- `colours::values::read_values` meets its contract: the loop of `Valuing`.
 use Prim.Native.Nat.{_-_}
 use Rattle.colours.proofs.Valuing.{Passing, passing-start, valuing}
 use native.Mathlib.Omega.{arith}

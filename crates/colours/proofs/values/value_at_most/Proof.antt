@@ -1,4 +1,4 @@
--- `crate::values::value_at_most` meets its contract.
+-- `colours::values::value_at_most` meets its contract.
 use mathlib.Core.Path.{refl}
 use Rattle.word.proofs.Read.{read-back}
 use borrow.Author.Needs.{needs}

@@ -1,4 +1,4 @@
--- `crate::find::entries` meets its contract: each arm divides by the size that it names.
+-- `counts::find::entries` meets its contract: each arm divides by the size that it names.
 use borrow.Author.Needs.{needs}
 use Rattle.counts.proofs.find.entries.Statement.{statement}
 use Rattle.counts.proofs.find.entries.Tie as tie

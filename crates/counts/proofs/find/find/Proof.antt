@@ -1,4 +1,4 @@
--- `crate::find::find` meets its contract: the laws of `Found`, one for each return.
+-- `counts::find::find` meets its contract: the laws of `Found`, one for each return.
 use Prim.Native.Nat.{_+_, _-_, _/_}
 use lib.ListN.{length, getD}
 use Rattle.colours.specs.Code.{coloured}

@@ -1,4 +1,4 @@
--- `crate::find::rank` meets its contract: the bracket of `Ranked` is halved.
+-- `counts::find::rank` meets its contract: the bracket of `Ranked` is halved.
 use lib.ListN.{length}
 use Rattle.colours.specs.Code.{coloured}
 use Prim.Native.Nat.{_+_, _-_, _/_}

@@ -1,4 +1,4 @@
--- `crate::lines::put_rows` meets its contract: the loop keeps the lines that are left.
+-- `offers::lines::put_rows` meets its contract: the loop keeps the lines that are left.
 use native.Mathlib.Omega.{arith}
 use borrow.Author.Needs.{needs}
 use Rattle.offers.proofs.Bindings.{LinesLeft, lines-all, lines-inside, lines-none, lines-again}

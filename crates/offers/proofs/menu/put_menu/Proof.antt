@@ -1,4 +1,4 @@
--- `crate::menu::put_menu` meets its contract: each return is a rule of `Menus`.
+-- `offers::menu::put_menu` meets its contract: each return is a rule of `Menus`.
 use Prim.Native.Nat.{ℕ}
 use borrow.Author.Needs.{needs}
 use lib.ListN.{length-replicate}

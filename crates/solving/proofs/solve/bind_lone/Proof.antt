@@ -1,4 +1,4 @@
--- `crate::solve::bind_lone` meets its contract: the kind of the word decides.
+-- `solving::solve::bind_lone` meets its contract: the kind of the word decides.
 use mathlib.Core.Path.{refl, sym, _∙_}
 use borrow.Author.Needs.{needs}
 use mir.Facts.{toZ-ofZ}

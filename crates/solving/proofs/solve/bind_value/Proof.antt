@@ -1,4 +1,4 @@
--- `crate::solve::bind_value` meets its contract: each answer by its rule in `Solving`.
+-- `solving::solve::bind_value` meets its contract: each answer by its rule in `Solving`.
 use mathlib.Core.Path.{refl}
 use Prim.Native.Nat.{_≤_}
 use native.Mathlib.Omega.{arith}

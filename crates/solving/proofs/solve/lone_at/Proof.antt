@@ -1,4 +1,4 @@
--- `crate::solve::lone_at` meets its contract: a slot that is looked at, by `Solving`.
+-- `solving::solve::lone_at` meets its contract: a slot that is looked at, by `Solving`.
 use mathlib.Core.Path.{sym, _∙_}
 use native.Mathlib.Omega.{arith}
 use borrow.Author.Needs.{needs}

@@ -1,4 +1,4 @@
--- `crate::solve::solve_at` meets its contract: each answer by its rule in `Solving`.
+-- `solving::solve::solve_at` meets its contract: each answer by its rule in `Solving`.
 use mathlib.Core.Path.{refl}
 use Prim.Native.Nat.{_+_, _≤_}
 use native.Mathlib.Omega.{arith}
