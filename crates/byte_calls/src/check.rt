@@ -1,33 +1,22 @@
 // Check on little-endian bytes.
+use crate::buffer::words_in;
 use accept::check::check;
 use semantics::Verdict;
-use word::bytes::words_of_bytes;
 ghost use mathlib.Core.Path.{_≡_};
-ghost use Prim.Native.Nat.{_≤_};
+ghost use Prim.Native.Nat.{_≤_, _/_, min};
 ghost use lib.ListN.{length};
 ghost use Rattle.semantics.specs.Word.{wordsOfBytes};
 ghost use Rattle.semantics.specs.Calls.{checkCall, checkBytesCall};
 
-// Check on the words of few bytes, in a small buffer: a large one takes longer to clear than a small net to check.
-fn check_few(net: &[u8]) -> Verdict
-    requires { ⌜ length (now net) ≤ 4096 ⌝ }
+// Check on the words of bytes, in a lent buffer.
+fn check_in(net: &[u8], words: &mut [u32]) -> Verdict
+    requires { ⌜ min (length (now net) / 4) 16385 ≤ length (now words) ⌝ }
     ensures { λ r. ⌜ r ≡ checkCall (wordsOfBytes (now (net .entry))) ⌝ }
 {
-    let mut words = [0u32; 1024];
-    let n = words_of_bytes(net, &mut words);
-    check(&words[..n])
+    check(words_in(net, words))
 }
 
-// Check on the words of bytes; spare bytes are left out. No reader looks past the word 16,384, so the words before it and that one are enough.
-fn check_many(net: &[u8]) -> Verdict
-    ensures { λ r. ⌜ r ≡ checkCall (wordsOfBytes (now (net .entry))) ⌝ }
-{
-    let mut words = [0u32; 16385];
-    let n = words_of_bytes(net, &mut words);
-    check(&words[..n])
-}
-
-// Check on little-endian bytes.
+// Check on little-endian bytes. Few of them go into a small buffer: a large one takes longer to clear than a small net to check.
 pub fn check_bytes(net: &[u8]) -> Verdict
     ensures { λ r. ⌜ r ≡ checkBytesCall (now (net .entry)) ⌝ }
 {
@@ -36,7 +25,7 @@ pub fn check_bytes(net: &[u8]) -> Verdict
         return Verdict::Refused(2, count);
     }
     if net.len() <= 4096 {
-        return check_few(net);
+        return check_in(net, &mut [0u32; 1024]);
     }
-    check_many(net)
+    check_in(net, &mut [0u32; 16385])
 }

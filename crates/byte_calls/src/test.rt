@@ -1,66 +1,60 @@
 // Test on little-endian bytes.
+use crate::buffer::words_in;
 use occurrence::test::test;
 use semantics::Tested;
-use word::bytes::words_of_bytes;
 ghost use mathlib.Core.Path.{_≡_};
-ghost use Prim.Native.Nat.{_≤_};
+ghost use Prim.Native.Nat.{_≤_, _/_, min};
 ghost use lib.ListN.{length};
 ghost use Rattle.semantics.specs.Word.{wordsOfBytes};
 ghost use Rattle.semantics.specs.Calls.{testCall, testBytesCall};
 
-// Test on the words of few bytes, in small buffers: large ones take longer to clear than a small net and marking to test.
-fn test_few(net: &[u8], transition: u32, marking: &[u8], binding: &[u8]) -> Tested
-    requires { ⌜ length (now net) ≤ 4096 ⌝ }
-    requires { ⌜ length (now marking) ≤ 4096 ⌝ }
-    requires { ⌜ length (now binding) ≤ 64 ⌝ }
+// Test on the words of bytes, in lent buffers.
+fn test_in(
+    net: &[u8],
+    transition: u32,
+    marking: &[u8],
+    binding: &[u8],
+    net_words: &mut [u32],
+    marking_words: &mut [u32],
+    binding_words: &mut [u32],
+) -> Tested
+    requires { ⌜ min (length (now net) / 4) 16385 ≤ length (now «net_words») ⌝ }
+    requires { ⌜ min (length (now marking) / 4) 16385 ≤ length (now «marking_words») ⌝ }
+    requires { ⌜ min (length (now binding) / 4) 16385 ≤ length (now «binding_words») ⌝ }
     ensures { λ r. ⌜ r ≡ testCall (wordsOfBytes (now (net .entry))) transition (wordsOfBytes (now (marking .entry))) (wordsOfBytes (now (binding .entry))) ⌝ }
 {
-    let mut small_net = [0u32; 1024];
-    let mut small_marking = [0u32; 1024];
-    let mut small_binding = [0u32; 16];
-    let n = words_of_bytes(net, &mut small_net);
-    let m = words_of_bytes(marking, &mut small_marking);
-    let b = words_of_bytes(binding, &mut small_binding);
     test(
-        &small_net[..n],
+        words_in(net, net_words),
         transition,
-        &small_marking[..m],
-        &small_binding[..b],
+        words_in(marking, marking_words),
+        words_in(binding, binding_words),
     )
 }
 
-// Test on the words of bytes; spare bytes are left out. The first 16,385 words of each slice are enough.
-fn test_many(net: &[u8], transition: u32, marking: &[u8], binding: &[u8]) -> Tested
-    ensures { λ r. ⌜ r ≡ testCall (wordsOfBytes (now (net .entry))) transition (wordsOfBytes (now (marking .entry))) (wordsOfBytes (now (binding .entry))) ⌝ }
-{
-    let mut net_words = [0u32; 16385];
-    let mut marking_words = [0u32; 16385];
-    let mut binding_words = [0u32; 16385];
-    let n = words_of_bytes(net, &mut net_words);
-    let m = words_of_bytes(marking, &mut marking_words);
-    let b = words_of_bytes(binding, &mut binding_words);
-    test(
-        &net_words[..n],
-        transition,
-        &marking_words[..m],
-        &binding_words[..b],
-    )
-}
-
-// Test on the words of bytes, by their lengths.
+// Test on the words of bytes. Few of them go into small buffers: large ones take longer to clear than a small net and marking to test.
 fn test_words(net: &[u8], transition: u32, marking: &[u8], binding: &[u8]) -> Tested
     ensures { λ r. ⌜ r ≡ testCall (wordsOfBytes (now (net .entry))) transition (wordsOfBytes (now (marking .entry))) (wordsOfBytes (now (binding .entry))) ⌝ }
 {
-    if 4096 < net.len() {
-        return test_many(net, transition, marking, binding);
+    if net.len() <= 4096 && marking.len() <= 4096 && binding.len() <= 64 {
+        return test_in(
+            net,
+            transition,
+            marking,
+            binding,
+            &mut [0u32; 1024],
+            &mut [0u32; 1024],
+            &mut [0u32; 16],
+        );
     }
-    if 4096 < marking.len() {
-        return test_many(net, transition, marking, binding);
-    }
-    if 64 < binding.len() {
-        return test_many(net, transition, marking, binding);
-    }
-    test_few(net, transition, marking, binding)
+    test_in(
+        net,
+        transition,
+        marking,
+        binding,
+        &mut [0u32; 16385],
+        &mut [0u32; 16385],
+        &mut [0u32; 16385],
+    )
 }
 
 // Test on little-endian bytes.
