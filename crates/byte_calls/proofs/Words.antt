@@ -15,6 +15,7 @@ use Rattle.semantics.specs.declared.Tested.the-variants.{Refused as TestRefused
 use Rattle.semantics.specs.Calls.{checkCall, testCall, checkBytesCall, testBytesCall}
 use Rattle.semantics.proofs.Prefix.{check-prefix, test-prefix}
 use Rattle.word.proofs.Copying.{words-length}
+use Rattle.byte_calls.specs.Alike.{ReadAlike}
 
 -- ── What a buffer holds ──
 
@@ -27,11 +28,11 @@ take-enough (suc k) (suc n) (x ∷ l) h = ap (_∷_ x) (take-enough k n l (omega
 
 -- n words of bytes were put into a buffer ws of k words, as many as it has room for
 pub enough-words : (bs ws rest : List ℕ) (n k : ℕ) → min (length bs / 4) 16385 ≤ k → n ≡ min (length bs / 4) k → ws ≡ take n (wordsOfBytes bs) ++ rest
-    → take 16385 (take n ws) ≡ take 16385 (wordsOfBytes bs)
+    → ReadAlike (take n ws) (wordsOfBytes bs)
 enough-words bs ws rest n k l e h =
     let us = wordsOfBytes bs in
     let m = words-length bs in
-    rw (h, take-at (take n us) rest n (length-take-le n us (omega arith))) (take-enough 16385 n us (omega arith))
+    record { first = rw (h, take-at (take n us) rest n (length-take-le n us (omega arith))) (take-enough 16385 n us (omega arith)) }
 
 -- ── Check ──
 
@@ -43,9 +44,8 @@ pub bytes-checked : (bs : List ℕ) (v : Verdict) → length bs % 4 ≡ 0 → v 
 unfolding checkBytesCall
 bytes-checked bs v z c = rw (eq-eqb (length bs % 4) 0 z) c
 
--- words that are alike as far as any reader looks
-pub checked-alike : (ws us : List ℕ) {v : Verdict} → take 16385 ws ≡ take 16385 us → v ≡ checkCall ws → v ≡ checkCall us
-checked-alike ws us e c = c ∙ check-prefix ws ∙ ap checkCall e ∙ sym (check-prefix us)
+pub checked-alike : {ws us : List ℕ} {v : Verdict} → ReadAlike ws us → v ≡ checkCall ws → v ≡ checkCall us
+checked-alike {ws} {us} e c = c ∙ check-prefix ws ∙ ap checkCall (e .first) ∙ sym (check-prefix us)
 
 -- ── Test ──
 
@@ -68,7 +68,6 @@ module _ (net marking binding : List ℕ) (t : ℕ) where
   unfolding testBytesCall
   bytes-tested v x y z c = rw (eq-eqb (length net % 4) 0 x, eq-eqb (length marking % 4) 0 y, eq-eqb (length binding % 4) 0 z) c
 
--- three slices of words, each alike as far as any reader looks
-pub tested-alike : (ws us : List ℕ) (t : ℕ) (ms ns bs cs : List ℕ) {v : Tested} → take 16385 ws ≡ take 16385 us → take 16385 ms ≡ take 16385 ns
-    → take 16385 bs ≡ take 16385 cs → v ≡ testCall ws t ms bs → v ≡ testCall us t ns cs
-tested-alike ws us t ms ns bs cs e f g c = rw (test-prefix us t ns cs, ← e, ← f, ← g, ← test-prefix ws t ms bs) c
+pub tested-alike : {ws us ms ns bs cs : List ℕ} (t : ℕ) {v : Tested} → ReadAlike ws us → ReadAlike ms ns → ReadAlike bs cs
+    → v ≡ testCall ws t ms bs → v ≡ testCall us t ns cs
+tested-alike {ws} {us} {ms} {ns} {bs} {cs} t e f g c = rw (test-prefix us t ns cs, ← e .first, ← f .first, ← g .first, ← test-prefix ws t ms bs) c

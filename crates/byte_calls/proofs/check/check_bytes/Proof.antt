@@ -4,14 +4,14 @@ use borrow.Author.Needs.{needs}
 use Rattle.byte_calls.proofs.check.check_bytes.Statement.{statement}
 use Rattle.byte_calls.proofs.check.check_bytes.Tie as tie
 
-returns : tie.Need-returns
-returns c = bytes-refused _ (c .if1 .taken)
-
-returns-2 : tie.Need-returns-2
-returns-2 c = bytes-checked _ _ (c .before .before .before .before .if1 .left) (c .before .check-in .ensures)
-
-returns-3 : tie.Need-returns-3
-returns-3 c = bytes-checked _ _ (c .before .before .before .before .if1 .left) (c .before .check-in2 .ensures)
-
 pub check-bytes-spec : {M : Type 1} → statement M
-check-bytes-spec = tie.close (tie.spec returns (λ c. search needs) (λ c κs. search needs) returns-2 (λ c. search needs) (λ c κs. search needs) returns-3)
+check-bytes-spec =
+    tie.close
+    (tie.spec
+    (λ c. search bytes-refused)
+    (λ c. search needs)
+    (λ c κs. search needs)
+    (λ c. search bytes-checked)
+    (λ c. search needs)
+    (λ c κs. search needs)
+    (λ c. search bytes-checked))

@@ -4,8 +4,5 @@ use borrow.Author.Needs.{needs}
 use Rattle.byte_calls.proofs.check.check_in.Statement.{statement}
 use Rattle.byte_calls.proofs.check.check_in.Tie as tie
 
-returns : tie.Need-returns
-returns c = checked-alike _ _ (c .before .before .before .words-in .ensures) (c .before .before .check .ensures)
-
 pub check-in-spec : {M : Type 1} → statement M
-check-in-spec = tie.close (tie.spec (λ c κs. search needs) (λ c κs. search needs) (λ c. search needs) returns)
+check-in-spec = tie.close (tie.spec (λ c κs. search needs) (λ c κs. search needs) (λ c. search needs) (λ c. search checked-alike))

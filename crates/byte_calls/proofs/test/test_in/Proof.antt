@@ -4,13 +4,6 @@ use borrow.Author.Needs.{needs}
 use Rattle.byte_calls.proofs.test.test_in.Statement.{statement}
 use Rattle.byte_calls.proofs.test.test_in.Tie as tie
 
-returns : tie.Need-returns
-returns c =
-    let n = c .before .before .before .before .before .before .before .before .before .before .before .words-in .ensures in
-    let m = c .before .before .before .before .before .before .before .before .before .words-in2 .ensures in
-    let b = c .before .before .before .before .before .before .before .words-in3 .ensures in
-    tested-alike _ _ _ _ _ _ _ n m b (c .before .before .before .before .before .before .test .ensures)
-
 pub test-in-spec : {M : Type 1} → statement M
 test-in-spec =
     tie.close
@@ -22,4 +15,4 @@ test-in-spec =
     (λ c. search needs)
     (λ c. search needs)
     (λ c. search needs)
-    returns)
+    (λ c. search tested-alike))

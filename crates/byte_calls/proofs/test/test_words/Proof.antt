@@ -5,9 +5,6 @@ use borrow.Author.Tests.{leb-true}
 use Rattle.byte_calls.proofs.test.test_words.Statement.{statement}
 use Rattle.byte_calls.proofs.test.test_words.Tie as tie
 
-test-in-requires : tie.Need-test-in-requires
-test-in-requires c κs = omega (arith, leb-true)
-
 pub test-words-spec : {M : Type 1} → statement M
 test-words-spec =
     tie.close
@@ -15,7 +12,7 @@ test-words-spec =
     (λ c. search needs)
     (λ c. search needs)
     (λ c. search needs)
-    test-in-requires
+    (λ c κs. omega (arith, leb-true))
     (λ c. search needs)
     (λ c. search needs)
     (λ c. search needs)
