@@ -2,7 +2,6 @@
 use crate::draw::Draft;
 use crate::draw::next;
 use crate::draw::pick;
-use conformance_lister::counting::is_new_variable;
 use conformance_plain::build::put;
 use conformance_plain::reading::Shape;
 use conformance_plain::reading::components;
@@ -17,6 +16,7 @@ use conformance_plain::reading::skip_conjuncts;
 use conformance_plain::reading::wide;
 use conformance_plain::slots::Slots;
 use conformance_plain::slots::bound;
+use conformance_plain::slots::is_new_variable;
 use conformance_plain::slots::slot;
 use conformance_plain::slots::unbound;
 use conformance_plain::slots::with;

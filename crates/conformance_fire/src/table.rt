@@ -14,6 +14,7 @@ use conformance_plain::build::write;
 use conformance_plain::reading::wide;
 use conformance_plain::text::after;
 use conformance_plain::text::bar_after;
+use conformance_plain::text::byte_at;
 use conformance_plain::text::field;
 use conformance_plain::text::find;
 use conformance_plain::text::part;
@@ -21,13 +22,6 @@ use conformance_report::report::case;
 use conformance_report::report::fire_case;
 use conformance_report::report::heading;
 use conformance_report::report::test_case;
-
-fn byte_at(text: &[u8], at: usize) -> u8 {
-    if at < text.len() {
-        return text[at];
-    }
-    0
-}
 
 // The calls on one case.
 fn call(

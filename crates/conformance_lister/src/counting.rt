@@ -16,6 +16,7 @@ use conformance_plain::reading::value_above;
 use conformance_plain::reading::values;
 use conformance_plain::reading::wide;
 use conformance_plain::slots::Slots;
+use conformance_plain::slots::is_new_variable;
 use conformance_plain::slots::slot;
 use conformance_plain::slots::slots_at;
 use conformance_plain::slots::unbound;
@@ -215,15 +216,6 @@ fn range_all(net: &[u32], s: Shape, queue: &mut [u32], w: Work, a: Arrival, v: u
         above += 1;
     }
     next
-}
-
-// The expression at a position is a variable that is not bound.
-pub fn is_new_variable(net: &[u32], at: usize, b: Slots) -> bool {
-    let w = get(net, at);
-    if kind(w) != 8 {
-        return false;
-    }
-    slot(b, wide(w % 8)) == 0
 }
 
 // A variable takes the value of an expression, where it has one.

@@ -3,15 +3,9 @@
 use crate::forms::run;
 use crate::report::heading;
 use conformance_plain::text::after;
+use conformance_plain::text::byte_at;
 use conformance_plain::text::find;
 use conformance_plain::text::part;
-
-fn byte_at(text: &[u8], at: usize) -> u8 {
-    if at < text.len() {
-        return text[at];
-    }
-    0
-}
 
 // The case at a position: its name ends a space before the bar, its words begin a space after it.
 fn run_case(form: u8, text: &[u8], at: usize, end: usize) {

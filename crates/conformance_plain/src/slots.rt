@@ -1,6 +1,8 @@
 // A binding that may be partial, as eight slots: a VALUE word where a variable is bound, 0 where it is not.
 use crate::reading::get;
+use crate::reading::kind;
 use crate::reading::plus;
+use crate::reading::wide;
 
 pub struct Slots {
     pub words: [u32; 8],
@@ -59,4 +61,13 @@ pub fn bound(b: Slots) -> u32 {
     let low = bound_of_four(slot(b, 0), slot(b, 1), slot(b, 2), slot(b, 3)) % 8;
     let high = bound_of_four(slot(b, 4), slot(b, 5), slot(b, 6), slot(b, 7)) % 8;
     low + high
+}
+
+// The expression at a position is a variable that is not bound.
+pub fn is_new_variable(net: &[u32], at: usize, b: Slots) -> bool {
+    let w = get(net, at);
+    if kind(w) != 8 {
+        return false;
+    }
+    slot(b, wide(w % 8)) == 0
 }

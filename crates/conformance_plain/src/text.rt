@@ -1,4 +1,12 @@
-// Fields of a line of text, with bars between them.
+// Bytes and fields of lines of text, with bars between them.
+
+// The byte at a position, 0 past the end.
+pub fn byte_at(text: &[u8], at: usize) -> u8 {
+    if at < text.len() {
+        return text[at];
+    }
+    0
+}
 
 // The position of a byte from a start on, or the length where there is none.
 pub fn find(text: &[u8], start: usize, b: u8) -> usize {

@@ -6,16 +6,10 @@ use conformance_plain::build::front;
 use conformance_plain::build::write;
 use conformance_plain::text::after;
 use conformance_plain::text::bar_after;
+use conformance_plain::text::byte_at;
 use conformance_plain::text::field;
 use conformance_plain::text::find;
 use conformance_plain::text::part;
-
-fn byte_at(text: &[u8], at: usize) -> u8 {
-    if at < text.len() {
-        return text[at];
-    }
-    0
-}
 
 // One input from its fields.
 fn run(form: u8, name: &[u8], words: &[u8], bytes: &[u8]) {
