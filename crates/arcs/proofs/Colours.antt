@@ -8,9 +8,9 @@ use lib.ListN.{length}
 use Rattle.semantics.specs.Expression.{Expression, houseTable, valuesOf}
 use Rattle.semantics.specs.Reading.{Reading, read, refused, then, several}
 use Rattle.semantics.specs.ReadNet.{readExpression}
-use Rattle.expression.specs.Evaluate.{lent}
+use Rattle.evaluation.specs.Evaluate.{lent}
 use Rattle.arcs.specs.Flow.{colourOf, colourAt}
-use Rattle.arcs.proofs.Evaluating.{Valued, Unread}
+use Rattle.evaluation.proofs.Answers.{Valued, Unread}
 
 -- ── Lists that may be missing ──
 

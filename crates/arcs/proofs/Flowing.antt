@@ -17,7 +17,7 @@ use Rattle.semantics.specs.ReadNet.{readExpression, readArc}
 use Rattle.semantics.specs.Net.{rangesAt}
 use Rattle.semantics.specs.Enabling.{flowBy, flow}
 use Rattle.semantics.proofs.Tests.{false-true, either}
-use Rattle.expression.specs.Evaluate.{lent}
+use Rattle.evaluation.specs.Evaluate.{lent}
 use Rattle.kinds.specs.declared.take.Taken.{Taken}
 use Rattle.kinds.specs.declared.take.Taken.the-variants.{Word, Refused}
 use Rattle.kinds.specs.Taken.{fitsKind, taken, IsTaken}
@@ -32,7 +32,7 @@ use Rattle.arcs.specs.declared.flow.Packed.the-variants.{Code, Outside a
 use Rattle.arcs.specs.declared.flow.Moved.the-variants.{Idle, Nothing}
 use Rattle.arcs.specs.Flow.{colourOf, colourAt, tokensBy, coefficientOf, arcFlow, flowAt}
 use Rattle.arcs.specs.Keys.{widthOf, coefficientRead, Packs, IsPacked, movedBy, Says, IsMoved}
-use Rattle.arcs.proofs.Evaluating.{Valued, Unread}
+use Rattle.evaluation.proofs.Answers.{Valued, Unread}
 
 -- ── A coefficient ──
 

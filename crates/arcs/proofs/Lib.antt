@@ -1,5 +1,3 @@
-pub mod Evaluating
-pub mod Guarding
 pub mod Colours
 pub mod Packing
 pub mod Flowing

@@ -26,7 +26,7 @@ use Rattle.arcs.specs.declared.flow.Packed.{Packed}
 use Rattle.arcs.specs.declared.flow.Packed.the-variants.{Code, Outside, Nothing}
 use Rattle.arcs.specs.Flow.{colourAt}
 use Rattle.arcs.specs.Keys.{IsPut, Packs, IsPacked, Below}
-use Rattle.arcs.proofs.Evaluating.{Valued, Unread}
+use Rattle.evaluation.proofs.Answers.{Valued, Unread}
 use Rattle.arcs.proofs.Colours.{front, front-nil, front-front, colour-value, colour-none, colour-unread}
 
 -- ── One component ──

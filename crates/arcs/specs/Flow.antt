@@ -1,29 +1,18 @@
--- 01, "Enabling and stepping": what guards and arcs say under a binding of lent words, told from the positions of conjuncts and arcs.
+-- 01, "Enabling and stepping": what arcs say under a binding of lent words, told from the positions of arcs.
 -- occurrence/proofs/Reading shows that they are what semantics says of a transition that was read.
--- Rests on semantics/specs/{ReadNet, Enabling}, expression/specs/Evaluate and net/specs/Places.
+-- Rests on semantics/specs/{ReadNet, Enabling}, evaluation/specs/Evaluate and net/specs/Places.
 use Prim.Native.Nat.{ℕ}
-use mathlib.Core.Bool.{Bool, true, false, _&&_}
 use mathlib.Core.List.{List, [], _∷_}
 use mathlib.Core.Option.{Option, none, some, bind}
 use lib.IntN.{ℤ, pos, negsuc}
 use lib.ListN.{length}
 use Rattle.semantics.specs.Expression.{Expression, Environment, houseTable, value, valuesOf}
 use Rattle.semantics.specs.Reading.{Reading, read, refused, several}
-use Rattle.semantics.specs.Net.{Arc, Conjunct}
-use Rattle.semantics.specs.ReadNet.{readExpression, readArc, readConjunct}
-use Rattle.semantics.specs.Enabling.{holds, Flow, flow}
-use Rattle.expression.specs.Evaluate.{lent}
+use Rattle.semantics.specs.Net.{Arc}
+use Rattle.semantics.specs.ReadNet.{readExpression, readArc}
+use Rattle.semantics.specs.Enabling.{Flow, flow}
+use Rattle.evaluation.specs.Evaluate.{lent}
 use Rattle.net.specs.Places.{placesAt}
-
--- "every conjunct holds": one that is read
-abbrev pub conjunctHolds : Environment → Reading Conjunct → Bool
-conjunctHolds env (read c next) = holds houseTable env c
-conjunctHolds env (refused n p) = false
-
--- every conjunct at these positions of the words ws, under the binding words bs
-unfoldable pub guardAt : List ℕ → List ℕ → List ℕ → Bool
-guardAt ws bs [] = true
-guardAt ws bs (at ∷ ats) = conjunctHolds (lent bs) (readConjunct ws (length bs) at) && guardAt ws bs ats
 
 -- "colour (tuple of components)": the values of expressions that are read
 abbrev pub colourOf : Environment → Reading (List Expression) → Option (List ℤ)

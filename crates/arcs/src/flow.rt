@@ -2,8 +2,8 @@
 // colour's code.
 use colours::code::digit_of;
 use colours::range::in_range;
-use expression::evaluate::Evaluated;
-use expression::evaluate::evaluate;
+use evaluation::evaluate::Evaluated;
+use evaluation::evaluate::evaluate;
 use kinds::take::Taken;
 use kinds::take::take;
 use word::fields::payload;
@@ -12,7 +12,7 @@ ghost use mathlib.Core.Path.{_≡_};
 ghost use Prim.Native.Nat.{_≤_, _<_, _+_, _^_};
 ghost use lib.ListN.{length};
 ghost use Rattle.semantics.specs.ReadNet.{readExpression};
-ghost use Rattle.expression.specs.Evaluate.{lent};
+ghost use Rattle.evaluation.specs.Evaluate.{lent};
 ghost use Rattle.net.specs.Places.{PlacesFit};
 ghost use Rattle.arcs.specs.Flow.{coefficientOf};
 ghost use Rattle.arcs.specs.Keys.{coefficientRead, IsPut, IsPacked, Below, movedBy, IsMoved};

@@ -22,11 +22,11 @@ use Rattle.net.specs.Places.{widthAt, placesAt, PlacesFit}
 use Rattle.net.proofs.Structures.{stricter, word-refused, word-taken}
 use Rattle.net.proofs.Placed.{places-length, width-at, fits-at}
 use Rattle.counts.proofs.Found.{rows-inside}
-use Rattle.plans.specs.declared.element.Element.{Element}
+use Rattle.elements.specs.declared.element.Element.{Element}
 use Rattle.arrivals.specs.declared.step.Step.{Step}
-use Rattle.tries.specs.Known.{Knows}
+use Rattle.matches.specs.Known.{Knows}
 use Rattle.arrivals.specs.Step.{IsParts, Inside, IsMatch}
-use Rattle.tries.proofs.Knowing.{knows-nothing}
+use Rattle.matches.proofs.Knowing.{knows-nothing}
 
 -- ── An arc that was read ──
 

@@ -4,15 +4,15 @@ use mathlib.Core.List.{List}
 use Prim.Native.Nat.{ℕ, _+_, _≤_, _<_}
 use native.Mathlib.Omega.{arith}
 use lib.ListN.{length, getD, replicate}
-use Rattle.plans.specs.declared.element.Element.{Element}
-use Rattle.plans.specs.declared.element.Sort.{Sort}
-use Rattle.plans.specs.declared.element.Sort.the-variants.{Match, Solve, Range as InRange}
+use Rattle.elements.specs.declared.element.Element.{Element}
+use Rattle.elements.specs.declared.element.Sort.{Sort}
+use Rattle.elements.specs.declared.element.Sort.the-variants.{Match, Solve, Range as InRange}
 use Rattle.arrivals.specs.declared.step.Step.{Step}
 use Rattle.tries.specs.Range.{CountsValues}
-use Rattle.tries.specs.Known.{Knows}
+use Rattle.matches.specs.Known.{Knows}
 use Rattle.arrivals.specs.Step.{IsMatch, SafeBy, Told, IsArrival}
 use Rattle.arrivals.proofs.Aiming.{Without, without-inside, without-knows}
-use Rattle.tries.proofs.Knowing.{knows-nothing}
+use Rattle.matches.proofs.Knowing.{knows-nothing}
 
 module _ (ws ps : List ℕ) (position v : ℕ) (inputs conjuncts ms begins : List ℕ) (e : Element) (b : List ℕ) where
   arrived : (r : Step) (s : Sort) → r .element ≡ e → e .sort ≡ s → SafeBy ms v r s → Knows v b (r .parts) (r .known) → Told ws ps position v inputs conjuncts ms begins e r s → IsArrival ws ps position v inputs conjuncts ms begins e b r

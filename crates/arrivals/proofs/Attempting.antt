@@ -10,18 +10,19 @@ use lib.ListN.{length, getD, set, take, getD-replicate}
 use Rattle.semantics.specs.Tries.{Partial}
 use Rattle.semantics.proofs.Members.{map-number}
 use Rattle.net.specs.Places.{rangesFrom}
-use Rattle.plans.specs.declared.element.Sort.{Sort}
-use Rattle.plans.specs.declared.element.Sort.the-variants.{Match, Solve, Range as InRange}
+use Rattle.elements.specs.declared.element.Sort.{Sort}
+use Rattle.elements.specs.declared.element.Sort.the-variants.{Match, Solve, Range as InRange}
 use Rattle.colours.specs.Values.{valuesAt}
 use Rattle.counts.specs.Counts.{coloursAt}
 use Rattle.counts.proofs.Ranked.{colours-length, colours-at, row-room}
 use Rattle.arrivals.specs.declared.step.Step.{Step}
-use Rattle.tries.specs.Partial.{partialOf, matchedBy}
-use Rattle.tries.specs.Known.{Knows, Differs, DiffersIf}
+use Rattle.tries.specs.Partial.{partialOf}
+use Rattle.matches.specs.Met.{matchedBy}
+use Rattle.matches.specs.Known.{Knows, Differs, DiffersIf}
 use Rattle.solving.specs.Solve.{solvedAt, HasConjunct}
 use Rattle.tries.specs.Range.{valueAt, upFrom}
 use Rattle.arrivals.specs.Step.{Inside, SafeBy, Safe, ReadyBy, Ready, triesOf, triesBy}
-use Rattle.tries.proofs.Knowing.{differs-fails}
+use Rattle.matches.proofs.Knowing.{differs-fails}
 
 pub up-length : (a n : ℕ) → length (upFrom a n) ≡ n
 unfolding upFrom

@@ -13,9 +13,9 @@ use Rattle.semantics.specs.Order.{sameInteger}
 use Rattle.semantics.specs.ReadNet.{constantHead, variableHead}
 use Rattle.semantics.specs.Tries.{Partial, partly, agree, matched}
 use Rattle.expression.proofs.Spelled.{HeadWord}
-use Rattle.tries.specs.Partial.{partTry, matchedBy}
+use Rattle.matches.specs.Met.{partTry, matchedBy}
 use Rattle.arrivals.specs.Step.{Begin}
-use Rattle.tries.proofs.Agreeing.{given-cond}
+use Rattle.matches.proofs.Agreeing.{given-cond}
 
 module _ (ranges : List Range) where
   module _ (w : ℕ) (z : ℤ) (p : Partial) where

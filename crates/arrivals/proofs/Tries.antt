@@ -28,14 +28,14 @@ use Rattle.word.specs.Fields.{rangeWord}
 use Rattle.net.specs.Places.{rangesFrom, placesAt}
 use Rattle.net.proofs.Located.{At, Parts, transition-parts}
 use Rattle.net.proofs.Placed.{places-length, variables-placed}
-use Rattle.plans.specs.declared.element.Element.{Element}
-use Rattle.plans.specs.declared.element.Sort.{Sort}
-use Rattle.plans.specs.declared.element.Sort.the-variants.{Match, Solve, Range as InRange}
-use Rattle.plans.specs.Plan.{sorted}
+use Rattle.elements.specs.declared.element.Element.{Element}
+use Rattle.elements.specs.declared.element.Sort.{Sort}
+use Rattle.elements.specs.declared.element.Sort.the-variants.{Match, Solve, Range as InRange}
+use Rattle.elements.specs.Bound.{sorted}
 use Rattle.counts.specs.Counts.{coloursAt}
 use Rattle.counts.proofs.Ranked.{colours-length}
 use Rattle.arrivals.specs.declared.step.Step.{Step}
-use Rattle.tries.specs.Partial.{matchedBy}
+use Rattle.matches.specs.Met.{matchedBy}
 use Rattle.solving.specs.Solve.{solvedAt, HasConjunct}
 use Rattle.tries.specs.Range.{valueAt, upFrom}
 use Rattle.arrivals.specs.Step.{Aimed, ReadyBy, Ready, triesOf, triesBy, Told, IsArrival}

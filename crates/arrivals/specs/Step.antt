@@ -1,5 +1,5 @@
 -- What an arrival at an element tries, told from positions. proofs/Tries.antt shows that in an accepted net and marking it is what semantics says.
--- Rests on semantics/specs/Tries, counts/specs/Counts, tries/specs/{Partial, Known, Range} and solving/specs/Solve.
+-- Rests on semantics/specs/Tries, counts/specs/Counts, tries/specs/{Partial, Range}, matches/specs/{Met, Known} and solving/specs/Solve.
 use mathlib.Core.Path.{_≡_}
 use mathlib.Core.List.{List, [], _∷_, map}
 use mathlib.Core.Option.{Option, some}
@@ -12,13 +12,13 @@ use Rattle.semantics.specs.ReadNet.{readExpression, readArc}
 use Rattle.semantics.specs.Tries.{Partial}
 use Rattle.expression.proofs.Spelled.{HeadWord, headOfTree}
 use Rattle.net.specs.Places.{rangesFrom, placesAt}
-use Rattle.plans.specs.declared.element.Element.{Element}
-use Rattle.plans.specs.declared.element.Sort.{Sort}
-use Rattle.plans.specs.declared.element.Sort.the-variants.{Match, Solve, Range as InRange}
+use Rattle.elements.specs.declared.element.Element.{Element}
+use Rattle.elements.specs.declared.element.Sort.{Sort}
+use Rattle.elements.specs.declared.element.Sort.the-variants.{Match, Solve, Range as InRange}
 use Rattle.counts.specs.Counts.{coloursAt}
 use Rattle.arrivals.specs.declared.step.Step.{Step}
-use Rattle.tries.specs.Partial.{matchedBy}
-use Rattle.tries.specs.Known.{Knows}
+use Rattle.matches.specs.Met.{matchedBy}
+use Rattle.matches.specs.Known.{Knows}
 use Rattle.solving.specs.Solve.{solvedAt, HasConjunct}
 use Rattle.tries.specs.Range.{valueAt, CountsValues, upFrom}
 

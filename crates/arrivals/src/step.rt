@@ -1,14 +1,14 @@
 // An arrival at an element of a plan: how many tries it makes, and each of them.
+use elements::element::Element;
+use elements::element::Sort;
 use expression::read::Skipped;
 use expression::read::skip_expression;
 use kinds::take::Taken;
 use kinds::take::take;
-use plans::element::Element;
-use plans::element::Sort;
+use matches::colour::match_colour;
+use matches::known::differs;
+use matches::known::known_parts;
 use solving::solve::solve_at;
-use tries::colour::match_colour;
-use tries::known::differs;
-use tries::known::known_parts;
 use tries::range::count_values;
 use tries::range::take_value;
 use word::fields::payload;
@@ -18,7 +18,7 @@ ghost use Prim.Native.Nat.{_≤_, _<_, _+_};
 ghost use lib.ListN.{length, getD, replicate};
 ghost use Rattle.net.specs.Places.{PlacesFit};
 ghost use Rattle.tries.specs.Partial.{partialOf, IsTried, IsSaved};
-ghost use Rattle.tries.specs.Known.{Knows};
+ghost use Rattle.matches.specs.Known.{Knows};
 ghost use Rattle.arrivals.specs.Step.{IsParts, IsMatch, IsArrival, Safe, Ready, triesBy};
 
 // A search step: the element that was arrived at, its number of tries, and what they need: for a match where the entries of its place begin, the

@@ -1,7 +1,7 @@
 // Test on little-endian bytes.
 use crate::buffer::words_in;
-use occurrence::test::test;
 use semantics::Tested;
+use testing::test::test;
 ghost use mathlib.Core.Path.{_≡_};
 ghost use Prim.Native.Nat.{_≤_, _/_, min};
 ghost use lib.ListN.{length};

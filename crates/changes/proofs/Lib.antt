@@ -1,4 +1,2 @@
 pub mod Sorted
 pub mod Counting
-pub mod Listing
-pub mod Stepped

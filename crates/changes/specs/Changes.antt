@@ -2,32 +2,23 @@
 -- keys that are taken or made; they are told rising, each once, and where their old entries are.
 -- Rests on Keys, arcs/specs/Keys, patch/specs/Patch and semantics/specs/Enabling.
 use mathlib.Core.Path.{_≡_}
-use mathlib.Core.Bool.{Bool, true, false, cond, not}
-use mathlib.Core.List.{List, [], _∷_, _++_, map}
-use Prim.Native.Nat.{ℕ, zero, suc, _+_, _≤_, _<_}
+use mathlib.Core.Bool.{Bool, false, cond, not}
+use mathlib.Core.List.{List, map}
+use Prim.Native.Nat.{ℕ, _+_, _≤_, _<_}
 use lib.Dec.{leb, eqb}
-use lib.ListN.{length, getD, drop}
-use Rattle.semantics.specs.declared.Fired.{Fired}
-use Rattle.semantics.specs.Refusal.{mostCount, overCount}
-use Rattle.semantics.specs.Lists.{Every, every}
+use lib.ListN.{length}
+use Rattle.semantics.specs.Refusal.{mostCount}
+use Rattle.semantics.specs.Lists.{Every}
 use Rattle.semantics.specs.Reading.{read}
-use Rattle.semantics.specs.Net.{Net}
-use Rattle.semantics.specs.Marking.{Entry, key, Counts, Proper, countsOf, entryWords}
-use Rattle.semantics.specs.Enabling.{effect, moved, stopped}
-use Rattle.semantics.specs.Run.{roomed}
-use Rattle.semantics.specs.Calls.{FireEnd, firedBy}
+use Rattle.semantics.specs.Marking.{Entry, key, Counts, countsOf, entryWords}
+use Rattle.semantics.specs.Enabling.{effect}
 use Rattle.net.specs.Places.{placesAt, PlacesFit}
 use Rattle.marking.specs.Marked.{markingRead, Begins, positionOf}
 use Rattle.arcs.specs.Keys.{keyPlace, keyColour, keyFlows, KeyFits}
-use Rattle.patch.specs.Patch.{Change, patched, oldLength, newLength, InOrder}
+use Rattle.patch.specs.Patch.{Change}
 use Rattle.changes.specs.declared.change.NewCount.{NewCount}
 use Rattle.changes.specs.declared.change.Changed.{Changed}
-use Rattle.changes.specs.declared.step.Listed.{Listed}
 use Rattle.changes.specs.Keys.{keysFrom}
-
--- answer and buffer, as the definition of the call has them
-abbrev pub fireEnd : Fired → List ℕ → FireEnd
-fireEnd r buffer = record { answer = r; buffer = buffer }
 
 -- ── One count ──
 
@@ -87,71 +78,3 @@ pub record IsChange (ws ps ik ia ok oa ms begins : List ℕ) (k : ℕ) (r : Chan
   pub small : r .count < 16384
   pub old-short : r .old ≤ 5
   pub new-short : r .new ≤ 5
-
--- the words of all old entries and of those that take their place
-pub record IsMeasured (ws ps ik ia ok oa ms begins : List ℕ) (r : Listed) : Type 0 where
-  pub over : (es : List Entry) → Sees ws ps ms begins es → r .over ≡ not (every (within ws ps (after ws ps ik ia ok oa es)) (keysFrom 0 (ik ++ ok)))
-  pub old : (es : List Entry) → Sees ws ps ms begins es → r .over ≡ false → r .old ≡ oldLength (changesFrom ws ps es (after ws ps ik ia ok oa es) (ik ++ ok) 0)
-  pub new : (es : List Entry) → Sees ws ps ms begins es → r .over ≡ false → r .new ≡ newLength (changesFrom ws ps es (after ws ps ik ia ok oa es) (ik ++ ok) 0)
-  pub new-short : r .new ≤ 80
-
--- ── A list of changes, in tables ──
-
--- tables of sixteen rows
-pub record Tables (keys ats olds counts : List ℕ) : Type 0 where
-  pub long-keys : length keys ≡ 16
-  pub long-ats : length ats ≡ 16
-  pub long-olds : length olds ≡ 16
-  pub long-counts : length counts ≡ 16
-
--- the change in row i
-abbrev pub rowAt : List ℕ → List ℕ → List ℕ → List ℕ → List ℕ → List ℕ → ℕ → Change
-rowAt ws ps keys ats olds counts i = record { place = keyPlace (getD keys i 0); colour = keyColour ws ps (getD keys i 0); count = getD counts i 0; at = getD ats i 0; old = getD olds i 0 }
-
--- n rows from i on
-unfoldable pub rowsFrom : (ℕ → Change) → ℕ → ℕ → List Change
-rowsFrom f i zero = []
-rowsFrom f i (suc n) = f i ∷ rowsFrom f (suc i) n
-
--- the first n rows
-abbrev pub listed : List ℕ → List ℕ → List ℕ → List ℕ → List ℕ → List ℕ → ℕ → List Change
-listed ws ps keys ats olds counts n = rowsFrom (rowAt ws ps keys ats olds counts) 0 n
-
--- they have a place and a count that can be written
-pub record Tabled (ps keys counts : List ℕ) (n : ℕ) : Type 0 where
-  pub few : n ≤ 16
-  pub there : (i : ℕ) → i < n → keyPlace (getD keys i 0) < length ps
-  pub small : (i : ℕ) → i < n → getD counts i 0 < 16384
-
--- the changes of all keys
-pub record IsListed (ws ps ik ia ok oa ms begins : List ℕ) (r : Listed) (keys ats olds counts : List ℕ) : Type 0 where
-  pub measured : IsMeasured ws ps ik ia ok oa ms begins r
-  pub tabled : Tabled ps keys counts (r .n)
-  pub same : (es : List Entry) → Sees ws ps ms begins es → r .over ≡ false → listed ws ps keys ats olds counts (r .n) ≡ changesFrom ws ps es (after ws ps ik ia ok oa es) (ik ++ ok) 0
-
--- the marking with them made has room
-pub record Writable (ws ps ms keys ats olds counts : List ℕ) (n : ℕ) (buffer : List ℕ) : Type 0 where
-  pub fits : PlacesFit ws ps
-  pub tabled : Tabled ps keys counts n
-  pub ordered : InOrder ms 0 (listed ws ps keys ats olds counts n)
-  pub room : length (patched ms 0 (listed ws ps keys ats olds counts n)) ≤ length buffer
-
--- it is written, and words beyond it stay
-pub record IsWritten (ws ps ms keys ats olds counts : List ℕ) (n : ℕ) (buffer : List ℕ) (r : ℕ) (rest : List ℕ) : Type 0 where
-  pub words : rest ≡ patched ms 0 (listed ws ps keys ats olds counts n) ++ drop (length (patched ms 0 (listed ws ps keys ats olds counts n))) buffer
-  pub size : r ≡ length (patched ms 0 (listed ws ps keys ats olds counts n))
-
--- ── A step ──
-
--- a marking of a net; where no count passes the limit, the counts after are proper
-pub record Stepping (ws ps ik ia ok oa ms begins : List ℕ) : Type 0 where
-  pub moves : Moves ws ps ik ia ok oa begins
-  pub net : Net
-  pub entries : List Entry
-  pub placed : net .places ≡ placesAt ws ps
-  pub sees : Sees ws ps ms begins entries
-  pub proper : every (within ws ps (after ws ps ik ia ok oa entries)) (keysFrom 0 (ik ++ ok)) ≡ true → Proper net (after ws ps ik ia ok oa entries)
-
--- 15 or 16, or the new marking
-pub record IsStep (ws ps ik ia ok oa ms begins : List ℕ) (buffer : List ℕ) (r : Fired) (rest : List ℕ) : Type 0 where
-  pub fired : (q : Stepping ws ps ik ia ok oa ms begins) → fireEnd r rest ≡ firedBy (q .net) buffer (roomed (q .net) (length buffer) (cond (every (within ws ps (after ws ps ik ia ok oa (q .entries))) (keysFrom 0 (ik ++ ok))) (moved (after ws ps ik ia ok oa (q .entries))) (stopped overCount)))

@@ -1,7 +1,7 @@
 // The order of two entries of a marking, by their colours.
+use numbers::number::equal;
+use numbers::number::less;
 use word::fields::signed;
-use word::number::equal;
-use word::number::less;
 ghost use mathlib.Core.Path.{_≡_};
 ghost use Prim.Native.Nat.{_≤_, _+_};
 ghost use lib.ListN.{length};

@@ -22,11 +22,11 @@ use conformance_report::report::same_words;
 use conformance_report::report::say_fire;
 use conformance_report::report::say_test;
 use conformance_report::report::say_words;
-use occurrence::test::test;
 use semantics::Fired;
 use semantics::Tested;
 use std::num::wrapping_add_u32;
 use std::num::wrapping_sub_u32;
+use testing::test::test;
 
 // A net that is being drawn: the position after its words, the state of the sequence, whether the guard holds so far.
 struct Draft {

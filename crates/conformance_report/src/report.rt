@@ -3,9 +3,9 @@ use conformance_plain::build::front;
 use conformance_plain::build::put;
 use conformance_plain::reading::get;
 use firing::fire::fire;
-use occurrence::test::test;
 use semantics::Fired;
 use semantics::Tested;
+use testing::test::test;
 
 pub fn refused(n: u32, p: usize) {
     io::write_all(1, b"refused ");

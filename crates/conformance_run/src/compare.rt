@@ -1,5 +1,5 @@
 // The call run held against what is due, and the first difference in full.
-use crate::plain::Given;
+use conformance_picks::plain::Given;
 use conformance_plain::build::copy;
 use conformance_plain::build::front;
 use conformance_plain::reading::plus;

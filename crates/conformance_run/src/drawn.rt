@@ -1,12 +1,5 @@
 // Drawn runs: a net of one to three transitions with their plans, a marking, picks, a budget and buffers, some of them damaged or short.
 use crate::compare::compare;
-use crate::plain::Given;
-use crate::plain::TOO_LARGE;
-use crate::plain::clears;
-use crate::plain::refused_input;
-use crate::plain::run_plainly;
-use crate::plain::transition_of;
-use crate::plain::tries_of;
 use conformance_draw::draw::Draft;
 use conformance_draw::draw::jump;
 use conformance_draw::draw::next;
@@ -18,6 +11,13 @@ use conformance_draw::nets::places;
 use conformance_draw::nets::transition;
 use conformance_draw::plans::draw_plan;
 use conformance_lister::lister::list_all;
+use conformance_picks::plain::Given;
+use conformance_picks::plain::TOO_LARGE;
+use conformance_picks::plain::clears;
+use conformance_picks::plain::refused_input;
+use conformance_picks::plain::run_plainly;
+use conformance_picks::plain::transition_of;
+use conformance_picks::plain::tries_of;
 use conformance_plain::build::copy;
 use conformance_plain::build::front;
 use conformance_plain::build::put;

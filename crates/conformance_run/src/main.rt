@@ -7,8 +7,6 @@ mod compare;
 mod drawn;
 // Outside cases.
 mod outside;
-// The plain run.
-mod plain;
 
 fn main() {
     io::write_all(

@@ -3,9 +3,9 @@
 // afterwards; for spare and for menu 1 where it is cleared and 0 where it stays. Each is held against run, and against the plain run where the net is accepted.
 use crate::compare::compare;
 use crate::compare::same_answer;
-use crate::plain::Given;
-use crate::plain::clears;
-use crate::plain::run_plainly;
+use conformance_picks::plain::Given;
+use conformance_picks::plain::clears;
+use conformance_picks::plain::run_plainly;
 use conformance_plain::build::copy;
 use conformance_plain::build::front;
 use conformance_plain::build::write;

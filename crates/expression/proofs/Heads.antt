@@ -11,7 +11,7 @@ use Rattle.semantics.specs.Refusal.{mostExpressionWords}
 use Rattle.semantics.specs.Word.{kind, payload, signed}
 use Rattle.semantics.specs.Reading.{read, then, wordAt}
 use Rattle.semantics.specs.ReadNet.{binaryHead, operatorHead, headOf, headAt, operands, expressionIn}
-use Rattle.word.specs.Number.{operatorOf}
+use Rattle.word.specs.Operator.{operatorOf}
 use Rattle.expression.specs.declared.head.Head.{Head}
 use Rattle.expression.specs.declared.head.Head.the-variants.{Constant, Variable, Binary, Load, Refused}
 use Rattle.expression.specs.Head.{head, Onward, HeadOnward, IsWord, IsHead}

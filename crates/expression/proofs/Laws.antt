@@ -1,33 +1,26 @@
--- What holds of an expression that is read at a position, for whoever passes over it or evaluates it there: how far it reaches, what its first
--- word says of it, which of its words are its variables, and what evaluating it answers. What the end of a reading that was passed over says of it.
+-- What holds of an expression that is read at a position: how far it reaches, what its first word says of it, and which of its words are its
+-- variables. What the end of a reading that was passed over says of it.
 -- Rests on Spelled.
 use mathlib.Core.Path.{_≡_, refl, sym, ap, _∙_}
 use mathlib.Core.Bool.{Bool, cond, not, _&&_, _||_, and-true, and-assoc}
-use mathlib.Core.List.{List, [], _∷_, _++_, map}
-use mathlib.Core.Option.{none, some, bind}
-use Prim.Native.Nat.{ℕ, zero, suc, _+_, _≤_, _<_, _^_}
+use mathlib.Core.List.{List, [], _∷_, _++_}
+use Prim.Native.Nat.{ℕ, _+_, _≤_, _<_}
 use native.Mathlib.Numerals.{add-one}
 use native.Mathlib.Omega.{arith}
-use borrow.Author.Tests.{lt-ltb}
 use lib.Dec.{eqb}
-use lib.IntN.{ℤ}
-use lib.Signed.{mag}
 use lib.ListN.{length, getD, take, drop, take-append-drop}
 use lib.Seq.{length-take-le, take-take, drop-append-le, slice, slice-empty, slice-cons}
 use Rattle.semantics.specs.Refusal.{mostWords, mostExpressionWords}
-use Rattle.semantics.specs.Lists.{Every, every}
-use Rattle.semantics.specs.Word.{kind, payload, signed, modulo, valueWord}
-use Rattle.semantics.specs.Expression.{Expression, constant, variable, binary, load, houseTable, value, bound, everyVariable}
+use Rattle.semantics.specs.Lists.{every}
+use Rattle.semantics.specs.Word.{kind, payload, signed}
+use Rattle.semantics.specs.Expression.{Expression, constant, variable, binary, load, everyVariable}
 use Rattle.semantics.specs.Reading.{Reading, read, refused}
 use Rattle.semantics.specs.ReadNet.{readExpression}
 use Rattle.semantics.proofs.Spans.{refused-read}
-use Rattle.semantics.proofs.Words.{modulo-below, value-kind, value-payload, signed-modulo}
+use Rattle.semantics.proofs.Tests.{false-true}
 use Rattle.expression.specs.declared.read.Skipped.{Skipped}
 use Rattle.expression.specs.declared.read.Skipped.the-variants.{Next, Refused}
-use Rattle.expression.specs.declared.evaluate.Evaluated.{Evaluated}
-use Rattle.expression.specs.declared.evaluate.Evaluated.the-variants.{Value, NoValue}
 use Rattle.expression.specs.Skip.{forget, skipped, Ahead}
-use Rattle.expression.specs.Evaluate.{valueOf, lent, valued, evaluated, evaluatedFrom}
 use Rattle.expression.proofs.Spelled.{HeadWord, headOfTree, Spelled, spelled}
 
 -- ── Parts of the words ──
@@ -130,17 +123,6 @@ module _ (ws : List ℕ) (variables at : ℕ) {e : Expression} {next : ℕ} (x :
   unfolding leafOf
   constant-alone k = rw k at (alone ws (at + mostExpressionWords) at e next (spelled ws variables at x) (omega arith))
 
-  -- what evaluate answers is the tree's value
-  module _ (bs : List ℕ) (n : length bs ≡ variables) (r : Evaluated) (h : evaluated r ≡ evaluatedFrom (lent bs) (readExpression ws (length bs) at)) where
-    pub read-evaluates : evaluated r ≡ valued (value houseTable (lent bs) e) next
-    read-evaluates = rw (n, x) at h
-
-    pub read-value : {z : ℤ} {p : ℕ} → r ≡ Value z p → (value houseTable (lent bs) e ≡ some z) × (p ≡ next)
-    read-value {z} {p} d = let v : valued (some z) p ≡ valued (value houseTable (lent bs) e) next = rw d at read-evaluates in (cc, cc)
-
-    pub read-no-value : {p : ℕ} → r ≡ NoValue p → (value houseTable (lent bs) e ≡ none) × (p ≡ next)
-    read-no-value {p} d = let v : valued none p ≡ valued (value houseTable (lent bs) e) next = rw d at read-evaluates in (cc, cc)
-
 -- ── What is passed over ──
 
 -- a reading that the code has passed over, told by its end
@@ -152,14 +134,6 @@ pub passed-refused : {A : Type 0} (x : Reading A) (s : Skipped) {n p : ℕ} → 
 passed-refused (read a k) s {n} {p} e d = refused-read n p tt k (sym (ap skipped d) ∙ e)
 passed-refused (refused m q) s {n} {p} e d = let b : refused n p ≡ refused m q = sym (ap skipped d) ∙ e in cc
 
--- ── Bindings ──
-
-value-written : (z : ℤ) → mag z < 8192 → valueOf (valueWord z) ≡ some z
-value-written z h = rw (value-kind z, value-payload z, lt-ltb (modulo z (2 ^ 14)) (2 ^ 14) (modulo-below z), signed-modulo z h)
-
--- the VALUE words of a binding, as an environment, are the binding
-pub lent-bound : (b : List ℤ) → Every (λ z. mag z < 8192) b → (n : ℕ) → lent (map valueWord b) n ≡ bound b n
-unfolding bind
-lent-bound [] h n = refl
-lent-bound (z ∷ zs) h zero = value-written z (h .0)
-lent-bound (z ∷ zs) h (suc n) = lent-bound zs (h .1) n
+-- the end of a reading is no refusal
+pub next-refused : {X : Type 0} {next n p : ℕ} → Next next ≡ Refused n p → X
+next-refused e = false-true (cc)

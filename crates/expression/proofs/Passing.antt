@@ -8,7 +8,7 @@ use lib.IntN.{ℤ}
 use Rattle.semantics.specs.Expression.{Operator, Expression, binary}
 use Rattle.semantics.specs.Reading.{Reading, read, refused, then, Reader, give}
 use Rattle.semantics.specs.ReadNet.{expressionIn}
-use Rattle.word.specs.Number.{operatorOf}
+use Rattle.word.specs.Operator.{operatorOf}
 use Rattle.expression.specs.declared.head.Head.{Head}
 use Rattle.expression.specs.declared.head.Head.the-variants.{Constant, Variable, Binary, Load, Refused}
 use Rattle.expression.specs.declared.read.Passed.{Passed}

@@ -1,5 +1,5 @@
 -- The first word of an expression, as the code tells it, and what its contracts say.
--- Rests on semantics/specs/ReadNet and word/specs/Number.
+-- Rests on semantics/specs/ReadNet and word/specs/Operator.
 use mathlib.Core.Path.{_≡_}
 use mathlib.Core.List.{List}
 use Prim.Native.Nat.{ℕ, _+_, _≤_, _<_}
@@ -8,7 +8,7 @@ use Rattle.semantics.specs.Refusal.{mostWords}
 use Rattle.semantics.specs.Reading.{Reading, read, refused}
 use Rattle.semantics.specs.ReadNet as net
 use Rattle.semantics.specs.ReadNet.{constantHead, variableHead, binaryHead, loadHead, headOf, headAt}
-use Rattle.word.specs.Number.{operatorOf}
+use Rattle.word.specs.Operator.{operatorOf}
 use Rattle.expression.specs.declared.head.Head.{Head}
 use Rattle.expression.specs.declared.head.Head.the-variants.{Constant, Variable, Binary, Load, Refused}
 

@@ -15,10 +15,10 @@ use Rattle.expression.specs.Skip.{forget, skipped}
 use Rattle.net.specs.Skim.{Outline}
 use Rattle.net.specs.Places.{rangesFrom}
 use Rattle.marking.specs.Marked.{bindingRead}
-use Rattle.occurrence.specs.declared.situation.Situation.{Situation}
-use Rattle.occurrence.specs.Situation.{Prepared, IsSituation}
-use Rattle.occurrence.proofs.Testing.{unbound-refused, bound-read, bound-length, bound-lent}
-use Rattle.changes.specs.Changes.{fireEnd}
+use Rattle.situations.specs.declared.situation.Situation.{Situation}
+use Rattle.situations.specs.Situation.{Prepared, IsSituation}
+use Rattle.testing.proofs.Testing.{unbound-refused, bound-read, bound-length, bound-lent}
+use Rattle.steps.specs.Steps.{fireEnd}
 use Rattle.firing.specs.Fire.{FireableAt, Fireable, IsFiredAt, IsFired}
 
 pub fire-refused : (ws : List ℕ) (t : ℕ) (ms bs buffer : List ℕ) {s : Situation} {n p : ℕ} → IsSituation ws t ms s → s .end ≡ Refused n p → fireEnd (FireRefused n p) buffer ≡ fireCall ws t ms bs buffer

@@ -31,7 +31,8 @@ use Rattle.net.specs.Places.{PlacesFit}
 use Rattle.marking.specs.Marked.{markingRead}
 use Rattle.marking.proofs.Counted.{marking-counts}
 use Rattle.arcs.specs.declared.gather.Gathered.{Gathered}
-use Rattle.arcs.specs.Flow.{guardAt, flowsAt}
+use Rattle.arcs.specs.Flow.{flowsAt}
+use Rattle.guards.specs.Guard.{guardAt}
 use Rattle.arcs.specs.Keys.{keyPlace, keyColour, keyFlows, fitsAt, moving, gatheredBy, IsGathered}
 use Rattle.arcs.proofs.Keyed.{total-moving, flow-keyed}
 use Rattle.occurrence.specs.Answers.{IsEnabledAt, IsTaken}
@@ -39,7 +40,8 @@ use Rattle.occurrence.proofs.Covering.{taken-unguarded, taken-unmoved}
 use Rattle.occurrence.proofs.Reading.{inputs-told, outputs-told, enabled-told}
 use Rattle.changes.specs.Keys.{keysFrom}
 use Rattle.firing.specs.Fire.{FireableAt}
-use Rattle.changes.specs.Changes.{Keyed, Moves, after, within, Sees, Stepping, IsStep, fireEnd}
+use Rattle.changes.specs.Changes.{Keyed, Moves, after, within, Sees}
+use Rattle.steps.specs.Steps.{Stepping, IsStep, fireEnd}
 use Rattle.changes.proofs.Sorted.{sort-in, keys-all}
 
 -- flows that were gathered

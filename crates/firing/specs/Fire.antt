@@ -15,7 +15,7 @@ use Rattle.semantics.specs.Lists.{Every}
 use Rattle.semantics.specs.Marking.{Entry, countsOf}
 use Rattle.semantics.specs.Run.{fire}
 use Rattle.semantics.specs.Calls.{firedBy}
-use Rattle.expression.specs.Evaluate.{lent}
+use Rattle.evaluation.specs.Evaluate.{lent}
 use Rattle.net.specs.declared.index.TransitionIndex.{TransitionIndex}
 use Rattle.net.specs.Skim.{outline}
 use Rattle.net.specs.Index.{outlined}
@@ -23,7 +23,7 @@ use Rattle.net.specs.Places.{placesAt}
 use Rattle.marking.specs.Marked.{markingRead, Begins}
 use Rattle.arcs.specs.Keys.{IsGathered}
 use Rattle.occurrence.specs.Answers.{IsEnabledAt}
-use Rattle.changes.specs.Changes.{fireEnd}
+use Rattle.steps.specs.Steps.{fireEnd}
 
 -- a transition of a net, whose conjuncts and arcs stand at these positions, a marking and a binding, with what the code has of them
 pub record FireableAt (ws ps gs is os ms begins bs : List ℕ) : Type 0 where

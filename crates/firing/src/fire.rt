@@ -1,19 +1,19 @@
 // The call fire: the marking after a step, written to a second buffer, or the refusal; a refusal leaves the buffer as it was.
 use arcs::gather::gather;
-use changes::step::fire_keys;
 use expression::read::Skipped;
 use marking::binding::read_binding;
 use net::index::TransitionIndex;
 use occurrence::enabled::taken;
-use occurrence::situation::prepare;
 use semantics::Fired;
+use situations::situation::prepare;
+use steps::step::fire_keys;
 use word::size::at_most;
 ghost use mathlib.Core.Path.{_≡_};
 ghost use Prim.Native.Nat.{_≤_};
 ghost use lib.ListN.{length};
 ghost use Rattle.semantics.specs.Calls.{fireCall};
 ghost use Rattle.net.specs.Places.{PlacesFit};
-ghost use Rattle.changes.specs.Changes.{fireEnd};
+ghost use Rattle.steps.specs.Steps.{fireEnd};
 ghost use Rattle.firing.specs.Fire.{FireableAt, IsFiredAt, EnabledAt, IsFiredEnabled, TakenAt, IsFiredTaken, Fireable, IsFired};
 
 // 14, 15 and 16 in that order, or the new marking is written. The first n keys and amounts are what an enabled binding takes.

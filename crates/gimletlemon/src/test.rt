@@ -1,7 +1,7 @@
 // Test for a C program.
 use answers::tell::tell_test;
 use byte_calls::test::test_bytes;
-use occurrence::test::test;
+use testing::test::test;
 ghost use mathlib.Core.Path.{_≡_};
 ghost use Rattle.semantics.specs.Answer.{testRefusal, testYes};
 ghost use Rattle.semantics.specs.Calls.{testCall, testBytesCall};

@@ -2,7 +2,7 @@
 // structure. At a refused word it prints the refusal and its reason. The refusal is the one of check, so that "refused 3 17" can be looked up.
 use listing::list::list_words;
 use listing::list::print;
-use text::line::put_bad_input;
+use text_lines::line::put_bad_input;
 use word::bytes::words_of_bytes;
 
 // A length that is not a whole number of words is refused first, as check on bytes refuses it.

@@ -25,17 +25,18 @@ use Rattle.semantics.specs.Calls.{Situation, listedBy}
 use Rattle.semantics.proofs.Tests.{either, and-both}
 use Rattle.semantics.proofs.Leaves.{Sound, sound-empty}
 use Rattle.semantics.proofs.Menu.{found-menu}
-use Rattle.expression.specs.Evaluate.{valueOf}
+use Rattle.evaluation.specs.Evaluate.{valueOf}
 use Rattle.marking.proofs.Counted.{marking-counts}
 use Rattle.rows.specs.Rows.{rowsOf, Listing, listed, over, listedIf, addAll, listingOf}
 use Rattle.rows.proofs.Listings.{add-all}
 use Rattle.rows.proofs.Rows.{rows-words, rows-length}
 use Rattle.tries.specs.Partial.{partialOf}
 use Rattle.arrivals.specs.World.{World}
-use Rattle.search.specs.declared.progress.Progress.{Progress}
-use Rattle.search.specs.Search.{costFrom, rowsFrom, exhausted, reached, settle, outcomeOf, Held, Ended, menuEnd}
+use Rattle.leaves.specs.declared.progress.Progress.{Progress}
+use Rattle.search.specs.Search.{costFrom, rowsFrom, menuEnd}
+use Rattle.leaves.specs.Leaf.{exhausted, reached, settle, outcomeOf, Held, Ended}
 use Rattle.menus.specs.Menu.{mostRows}
-use Rattle.search.proofs.Settling.{settled-on, settled-past}
+use Rattle.leaves.proofs.Settling.{settled-on, settled-past}
 use Rattle.search.proofs.Worlds.{few-variables}
 
 -- ── Room ──

@@ -14,8 +14,8 @@ use Rattle.semantics.proofs.Accepted.{accepted-planned}
 use Rattle.expression.specs.declared.read.Skipped.the-variants.{Refused}
 use Rattle.net.specs.Skim.{Outline}
 use Rattle.net.specs.Index.{outlined}
-use Rattle.occurrence.specs.declared.situation.Situation.{Situation as Prepared-numbers}
-use Rattle.occurrence.specs.Situation.{Prepared, IsSituation}
+use Rattle.situations.specs.declared.situation.Situation.{Situation as Prepared-numbers}
+use Rattle.situations.specs.Situation.{Prepared, IsSituation}
 use Rattle.arrivals.specs.World.{World}
 use Rattle.search.specs.Scene.{sceneOf}
 use Rattle.search.specs.Search.{menuEnd}

@@ -1,9 +1,9 @@
 // The call menu: every enabled binding of a transition in a marking, once, by rising variable 0, then 1 and on.
 use expression::read::Skipped;
-use occurrence::situation::prepare;
-use search::progress::Progress;
+use leaves::progress::Progress;
 use search::walk::walk;
 use semantics::Listed;
+use situations::situation::prepare;
 use word::size::at_most;
 ghost use mathlib.Core.Path.{_≡_};
 ghost use lib.ListN.{length, replicate};

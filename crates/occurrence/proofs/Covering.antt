@@ -24,7 +24,8 @@ use Rattle.counts.specs.Counts.{IsSpot}
 use Rattle.marking.specs.Marked.{markingRead, Begins}
 use Rattle.colours.proofs.Codes.{coloured-length}
 use Rattle.arcs.specs.declared.gather.Gathered.{Gathered}
-use Rattle.arcs.specs.Flow.{guardAt, flowsAt}
+use Rattle.arcs.specs.Flow.{flowsAt}
+use Rattle.guards.specs.Guard.{guardAt}
 use Rattle.arcs.specs.Keys.{keyPlace, keyCode, widthOf, keyColour, keyFlows, KeyFits, IsGathered, sumOf}
 use Rattle.arcs.proofs.Keyed.{Ranged, keys-total, covers-gathered}
 use Rattle.occurrence.specs.Answers.{IsCovered, IsEnabledAt, IsTaken}

@@ -1,4 +1,2 @@
 pub mod Reading
 pub mod Covering
-pub mod Situations
-pub mod Testing

@@ -15,12 +15,13 @@ use Rattle.semantics.specs.Net.{Place, Arc, Conjunct, Transition}
 use Rattle.semantics.specs.ReadNet.{readArc, readConjunct, readTransition}
 use Rattle.semantics.specs.Marking.{Entry, countsOf}
 use Rattle.semantics.specs.Enabling.{holds, flows, isEnabled}
-use Rattle.expression.specs.Evaluate.{lent}
-use Rattle.expression.proofs.Laws.{lent-bound}
+use Rattle.evaluation.specs.Evaluate.{lent}
+use Rattle.evaluation.proofs.Answers.{lent-bound}
 use Rattle.net.specs.Places.{placesAt}
 use Rattle.net.proofs.Located.{At, transition-parts}
 use Rattle.marking.specs.Marked.{markingRead, Begins}
-use Rattle.arcs.specs.Flow.{guardAt, flowsAt}
+use Rattle.arcs.specs.Flow.{flowsAt}
+use Rattle.guards.specs.Guard.{guardAt}
 use Rattle.occurrence.specs.Answers.{IsEnabledAt}
 
 -- ── Arcs and conjuncts at their positions ──

@@ -10,7 +10,8 @@ use Rattle.semantics.specs.Marking.{Entry, countsOf}
 use Rattle.semantics.specs.Enabling.{covers, coversAll}
 use Rattle.net.specs.Places.{placesAt}
 use Rattle.marking.specs.Marked.{markingRead, Begins}
-use Rattle.arcs.specs.Flow.{guardAt, flowsAt}
+use Rattle.arcs.specs.Flow.{flowsAt}
+use Rattle.guards.specs.Guard.{guardAt}
 use Rattle.arcs.specs.declared.gather.Gathered.{Gathered}
 use Rattle.arcs.specs.Keys.{keyFlows, IsGathered}
 

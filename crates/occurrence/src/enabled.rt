@@ -2,7 +2,7 @@
 use crate::cover::covers;
 use arcs::gather::Gathered;
 use arcs::gather::gather;
-use arcs::guard::guard_holds;
+use guards::guard::guard_holds;
 use net::index::TransitionIndex;
 use word::size::at_most;
 ghost use mathlib.Core.Path.{_≡_};

@@ -4,7 +4,3 @@
 pub mod cover;
 // Whether a binding is enabled.
 pub mod enabled;
-// What the calls on a transition and a marking start from.
-pub mod situation;
-// The call test.
-pub mod test;

@@ -22,7 +22,8 @@ use Rattle.semantics.proofs.Accepted.{Valued, SoundTransition}
 use Rattle.semantics.proofs.Menu.{menu-members}
 use Rattle.rows.specs.Rows.{valuesOfWords, rowsOf}
 use Rattle.colours.proofs.Codes.{value-back}
-use Rattle.text.specs.Put.{Put, rowText}
+use Rattle.text.specs.Put.{Put}
+use Rattle.text_lines.specs.Row.{rowText}
 use Rattle.text.proofs.Putting.{Left, left-all, left-after, left-none}
 use Rattle.offers.specs.Offers.{rowsText}
 

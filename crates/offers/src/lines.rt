@@ -1,5 +1,5 @@
 // The lines of bindings, from the words of a menu.
-use text::line::put_row;
+use text_lines::line::put_row;
 ghost use Prim.Native.Nat.{_*_, _≤_};
 ghost use lib.ListN.{length};
 ghost use Rattle.text.specs.Put.{Put};

@@ -1,8 +1,8 @@
 // The text of a transition's menu.
 use crate::lines::put_rows;
 use semantics::Listed;
-use text::line::put_numbers;
-use text::line::put_withheld;
+use text_lines::line::put_numbers;
+use text_lines::line::put_withheld;
 ghost use Rattle.offers.specs.Offers.{Ready, IsMenuText};
 
 // The transition's number, N and W and the bindings, or the number of the menu's refusal.

@@ -1,3 +1,2 @@
-pub mod Parting
 pub mod Firing
 pub mod Picking

@@ -47,9 +47,9 @@ use Rattle.search.specs.Scene.{netOf, countsIn, sceneOf}
 use Rattle.search.specs.Search.{menuEnd}
 use Rattle.menus.specs.Menu.{IsListed}
 use Rattle.picks.specs.declared.pick.Picked.{Picked}
-use Rattle.picks.specs.Parts.{variablesIn, inputsIn, outputsIn, guardIn, planIn, Parted}
+use Rattle.parts.specs.Parts.{variablesIn, inputsIn, outputsIn, guardIn, planIn, Parted}
 use Rattle.picks.specs.Pick.{Leaves, row, FiresRow, Lists, IsFiredAt, Pickable, IsPicked}
-use Rattle.picks.proofs.Parting.{head-inside}
+use Rattle.parts.proofs.Parting.{head-inside}
 use Rattle.picks.proofs.Firing.{part-is}
 
 -- ── What was listed ──

@@ -1,5 +1,5 @@
 -- What a pick leaves: the marking after it at the front of the buffer, or the marking before it and the refusal.
--- Rests on semantics/specs/Run, firing/specs/Fire, Known and Parts.
+-- Rests on semantics/specs/Run, firing/specs/Fire, starts/specs/Known and parts/specs/Parts.
 use mathlib.Core.Path.{_≡_}
 use mathlib.Core.Bool.{true}
 use mathlib.Core.List.{List}
@@ -19,8 +19,8 @@ use Rattle.firing.specs.Fire.{FireableAt}
 use Rattle.arrivals.specs.World.{World}
 use Rattle.search.specs.Scene.{netOf, countsIn, sceneOf}
 use Rattle.picks.specs.declared.pick.Picked.{Picked}
-use Rattle.picks.specs.Known.{NetKnown}
-use Rattle.picks.specs.Parts.{variablesIn, inputsIn, outputsIn, guardIn, planIn, FewParts, PartsKept}
+use Rattle.starts.specs.Known.{NetKnown}
+use Rattle.parts.specs.Parts.{variablesIn, inputsIn, outputsIn, guardIn, planIn, FewParts, PartsKept}
 
 -- the marking after a firing at the front of the buffer, or the one before it and the refusal
 abbrev pub Leaves : Net → List ℕ → ℕ → Picked → List ℕ → Firing → Type 0

@@ -27,15 +27,18 @@ use Rattle.kinds.specs.declared.take.Taken.{Taken}
 use Rattle.kinds.specs.declared.take.Taken.the-variants.{Word, Refused as TakeRefused}
 use Rattle.net.specs.declared.index.Parts.{Parts}
 use Rattle.net.specs.Index.{upTo, AreParts}
-use Rattle.plans.specs.declared.bind.Bound.{Bound}
-use Rattle.plans.specs.declared.element.Sort.{Sort}
-use Rattle.plans.specs.declared.element.Sort.the-variants.{Match, Solve, Range}
+use Rattle.elements.specs.declared.bind.Bound.{Bound}
+use Rattle.elements.specs.declared.element.Sort.{Sort}
+use Rattle.elements.specs.declared.element.Sort.the-variants.{Match, Solve, Range}
 use Rattle.plans.specs.declared.plan.Fault.{Fault}
 use Rattle.plans.specs.declared.plan.Fault.the-variants.{Nothing}
 use Rattle.plans.specs.declared.plan.Reviewed.{Reviewed}
-use Rattle.plans.specs.Fitness.{unboundOf, matchAt, solveAt, bindsAt, planParts, elementOr, faultFrom, faultIn, transitionFault, faultAmong}
-use Rattle.plans.specs.Plan.{sorted, marked, nonEmpty, fresh, IsBound, fault, IsReviewed, AreReviewed}
-use Rattle.plans.proofs.Binding.{bound-none}
+use Rattle.plans.specs.Fitness.{bindsAt, elementOr, faultFrom, faultIn, transitionFault, faultAmong}
+use Rattle.elements.specs.Binds.{unboundOf, matchAt, solveAt}
+use Rattle.plans.specs.Fitness.{planParts}
+use Rattle.plans.specs.Plan.{fault, IsReviewed, AreReviewed}
+use Rattle.elements.specs.Bound.{sorted, marked, nonEmpty, fresh, IsBound}
+use Rattle.elements.proofs.Binding.{bound-none}
 
 -- ── Variables that are not bound ──
 

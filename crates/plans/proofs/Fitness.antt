@@ -31,14 +31,11 @@ use Rattle.kinds.specs.Taken.{fitsKind}
 use Rattle.net.specs.Skim.{changed, outline, skimTransition, width}
 use Rattle.net.proofs.Skimming.{widths-at, skim-transition}
 use Rattle.net.proofs.Located.{At, Parts, transition-parts}
-use Rattle.plans.specs.Fitness.{after, loneAt, loneFrom, matchAt, allBound, firstOf, solveAt, atMember, bindsAt, faultFrom, faultAmong}
+use Rattle.plans.specs.Fitness.{atMember, bindsAt, faultFrom, faultAmong}
+use Rattle.elements.proofs.Binding.{unless}
+use Rattle.elements.specs.Binds.{after, loneAt, loneFrom, matchAt, allBound, firstOf, solveAt}
 
 -- ── A variable alone ──
-
--- a test turned round, with its answers exchanged
-pub unless : (n : ℕ) (t : Bool) → cond (not t) (n ∷ []) [] ≡ cond t [] (n ∷ [])
-unless n true = refl
-unless n false = refl
 
 -- the word of a kind without a test of its own at a position that exists
 word-here : (ws : List ℕ) (k at : ℕ) → ((p : ℕ) → fitsKind k p ≡ true) → at < length ws → at < mostWords → kind (getD ws at 0) ≡ k → word ws k (fitsKind k) at ≡ read (payload (getD ws at 0)) (at + 1)

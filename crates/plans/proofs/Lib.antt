@@ -1,4 +1,2 @@
 pub mod Fitness
-pub mod Binding
-pub mod Solving
 pub mod Faults

@@ -2,46 +2,17 @@
 -- Rests on Fitness and net/specs/Index.
 use mathlib.Core.Path.{_≡_}
 use Prim.Native.Nat.{ℕ}
-use mathlib.Core.Bool.{Bool, true, false, _||_}
-use mathlib.Core.List.{List, [], _∷_}
+use mathlib.Core.List.{List}
 use mathlib.Core.Option.{Option, none, some}
-use lib.ListN.{getD, take}
-use Rattle.semantics.specs.Net as net
-use Rattle.semantics.specs.Plan.{member}
+use lib.ListN.{take}
 use Rattle.expression.specs.declared.read.Skipped.the-variants.{Next}
 use Rattle.expression.specs.Skip.{skipped}
 use Rattle.net.specs.Skim.{starts, skimTransitions}
 use Rattle.net.specs.Index.{upTo}
-use Rattle.plans.specs.declared.element.Sort.{Sort}
-use Rattle.plans.specs.declared.element.Sort.the-variants.{Match, Solve, Range}
-use Rattle.plans.specs.declared.bind.Bound.{Bound}
 use Rattle.plans.specs.declared.plan.Fault.{Fault}
 use Rattle.plans.specs.declared.plan.Fault.the-variants.{At, Nothing}
 use Rattle.plans.specs.declared.plan.Reviewed.{Reviewed}
 use Rattle.plans.specs.Fitness.{transitionFault, faultAmong}
-
--- the element that semantics has for each case
-abbrev pub sorted : Sort → net.Sort
-sorted (Match k) = net.match k
-sorted (Solve k) = net.solve k
-sorted (Range n) = net.range n
-
--- a variable is marked as bound
-abbrev pub marked : List Bool → ℕ → Bool
-marked marks n = getD marks n false
-
-abbrev pub nonEmpty : List ℕ → Bool
-nonEmpty [] = false
-nonEmpty (n ∷ ns) = true
-
--- r has the marks of b and those of the variables ns, and says whether there is one
-pub record IsBound (b : Bound) (ns : List ℕ) (r : Bound) : Type 0 where
-  pub some : r .some ≡ (nonEmpty ns || b .some)
-  pub marks : (k : ℕ) → marked (r .marks) k ≡ (member ns k || marked (b .marks) k)
-
--- these marks, nothing being bound just now
-abbrev pub fresh : List Bool → Bound
-fresh marks = record { some = false; marks = marks }
 
 abbrev pub fault : Fault → Option ℕ
 fault (At p) = some p

@@ -1,11 +1,11 @@
 // Plans: the variables that an element binds, and where a plan is at fault.
-use crate::bind::Bound;
-use crate::bind::bind_match;
-use crate::bind::bind_variable;
-use crate::element::Element;
-use crate::element::Sort;
-use crate::element::element_of;
-use crate::solve::bind_solve;
+use elements::bind::Bound;
+use elements::bind::bind_match;
+use elements::bind::bind_variable;
+use elements::element::Element;
+use elements::element::Sort;
+use elements::element::element_of;
+use elements::solve::bind_solve;
 use expression::read::Skipped;
 use kinds::take::Taken;
 use kinds::take::take;
@@ -16,8 +16,10 @@ ghost use mathlib.Core.Option.{none, some};
 ghost use Prim.Native.Nat.{_≤_};
 ghost use lib.ListN.{length};
 ghost use Rattle.semantics.specs.Plan.{everyBelow, firstOf};
-ghost use Rattle.plans.specs.Fitness.{planParts, bindsAt, faultFrom};
-ghost use Rattle.plans.specs.Plan.{marked, fresh, IsBound, sorted, fault, IsReviewed, AreReviewed};
+ghost use Rattle.plans.specs.Fitness.{bindsAt, faultFrom};
+ghost use Rattle.plans.specs.Fitness.{planParts};
+ghost use Rattle.plans.specs.Plan.{fault, IsReviewed, AreReviewed};
+ghost use Rattle.elements.specs.Bound.{marked, fresh, IsBound, sorted};
 
 // The variables that an element of a transition binds, whose input arcs and conjuncts begin at these positions.
 fn newly_bound(

@@ -25,8 +25,8 @@ use Rattle.semantics.proofs.Accepted.{accepted-sound, front-inside}
 use Rattle.expression.specs.declared.read.Skipped.the-variants.{Next, Refused}
 use Rattle.net.specs.Skim.{Outline}
 use Rattle.accept.specs.Front.{splitInto}
-use Rattle.occurrence.specs.declared.situation.Situation.{Situation as Index}
-use Rattle.occurrence.specs.Situation.{IsSituation}
+use Rattle.situations.specs.declared.situation.Situation.{Situation as Index}
+use Rattle.situations.specs.Situation.{IsSituation}
 use Rattle.word.proofs.Copying.{words-length}
 use Rattle.text.specs.Put.{Put}
 use Rattle.text.proofs.Putting.{put-none}

@@ -1,9 +1,9 @@
 // Parts of the printed text: one for each transition, or one for input that is refused.
 use accept::split::split;
 use expression::read::Skipped;
-use occurrence::situation::prepare;
 use offers::menu::put_menu;
-use text::line::put_bad_input;
+use situations::situation::prepare;
+use text_lines::line::put_bad_input;
 use word::bytes::words_of_bytes;
 ghost use mathlib.Core.Path.{_≡_};
 ghost use mathlib.Core.List.{_∷_, []};

@@ -1,6 +1,6 @@
 // How rows of VALUE words stand to each other: by rising values, the first that differ decide.
+use numbers::number::less;
 use word::fields::signed;
-use word::number::less;
 ghost use Prim.Native.Nat.{_+_, _≤_};
 ghost use lib.ListN.{length, take, drop};
 ghost use Rattle.rows.specs.Rows.{valuesOfWords, Stands};

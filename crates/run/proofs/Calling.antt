@@ -17,8 +17,8 @@ use Rattle.net.specs.declared.index.NetIndex.{NetIndex}
 use Rattle.marking.specs.Marked.{markingRead}
 use Rattle.search.specs.Scene.{netOf, countsIn}
 use Rattle.run.specs.declared.run.Ended.{Ended}
-use Rattle.picks.specs.Known.{NetKnown}
-use Rattle.run.specs.Start.{Started, IsStart}
+use Rattle.starts.specs.Known.{NetKnown}
+use Rattle.starts.specs.Start.{Started, IsStart}
 use Rattle.run.specs.Run.{Runnable, HasRun, HasRunFrom, runEnd}
 use Rattle.run.proofs.Running.{picks-known}
 

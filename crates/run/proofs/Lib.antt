@@ -1,4 +1,3 @@
-pub mod Starting
 pub mod Running
 pub mod Calling
 pub mod Reaching

@@ -29,7 +29,7 @@ use Rattle.semantics.proofs.Reach.{Marks, pick-marks}
 use Rattle.marking.specs.Marked.{markingRead}
 use Rattle.search.specs.Scene.{netOf, countsIn}
 use Rattle.picks.specs.declared.pick.Picked.{Picked}
-use Rattle.picks.specs.Parts.{NetRead, PartsKept}
+use Rattle.parts.specs.Parts.{NetRead, PartsKept}
 use Rattle.picks.specs.Pick.{Leaves, Pickable, IsPicked}
 use Rattle.run.specs.Run.{Runnable, HasRun}
 

@@ -1,5 +1,5 @@
 -- What a run of picks comes to, as the code has it.
--- Rests on semantics/specs/{Run, Calls} and picks/specs/Known.
+-- Rests on semantics/specs/{Run, Calls} and starts/specs/Known.
 use mathlib.Core.Path.{_≡_}
 use mathlib.Core.List.{List}
 use Prim.Native.Nat.{ℕ, _≤_, _<_}
@@ -16,7 +16,7 @@ use Rattle.semantics.specs.Calls.{limits, RunEnd}
 use Rattle.marking.specs.Marked.{markingRead}
 use Rattle.search.specs.Scene.{netOf, countsIn}
 use Rattle.run.specs.declared.run.Ended.{Ended}
-use Rattle.picks.specs.Known.{NetKnown}
+use Rattle.starts.specs.Known.{NetKnown}
 
 -- a net, an accepted marking at the front of a buffer, and picks of the net's transitions
 pub record Runnable (ws ps widths transitions buffer : List ℕ) (m : ℕ) (picks : List ℕ) : Type 0 where

@@ -1,10 +1,10 @@
 // The call run: picks fired one after the other, each from the marking that the one before it left.
-use crate::begin::begin;
 use expression::read::Skipped;
 use menus::menu::clear;
-use picks::parts::keep_all;
+use parts::parts::keep_all;
 use picks::pick::pick_once;
 use semantics::Outcome;
+use starts::begin::begin;
 use word::size::at_most;
 ghost use mathlib.Core.Path.{_≡_};
 ghost use Rattle.semantics.specs.Calls.{runCall};

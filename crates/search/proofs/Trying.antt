@@ -14,9 +14,9 @@ use lib.Seq.{drop-cons, drop-drop}
 use Rattle.semantics.specs.Tries.{Partial, countTries}
 use Rattle.rows.specs.Rows.{Listing, addAll, listingOf}
 use Rattle.rows.proofs.Listings.{add-append}
-use Rattle.search.specs.declared.progress.Progress.{Progress}
-use Rattle.search.specs.Search.{Outcome, exhausted, reached, settle, outcomeOf, Held, Unspent, Ended}
-use Rattle.search.proofs.Settling.{settle-in, settle-past, settled-on, settled-past}
+use Rattle.leaves.specs.declared.progress.Progress.{Progress}
+use Rattle.leaves.specs.Leaf.{Outcome, exhausted, reached, settle, outcomeOf, Held, Unspent, Ended}
+use Rattle.leaves.proofs.Settling.{settle-in, settle-past, settled-on, settled-past}
 
 -- the rows of the tries that go on, one after the other
 unfoldable pub rowsOver : (Partial → List (List ℤ)) → List (Option Partial) → List (List ℤ)

@@ -19,7 +19,7 @@ use Rattle.semantics.specs.Calls.{Situation}
 use Rattle.semantics.proofs.Tests.{either, and-left, and-right}
 use Rattle.semantics.proofs.Members.{none-some}
 use Rattle.semantics.proofs.Words.{value-again}
-use Rattle.expression.specs.Evaluate.{valueOf, lent}
+use Rattle.evaluation.specs.Evaluate.{valueOf, lent}
 use Rattle.occurrence.specs.Answers.{IsEnabledAt}
 use Rattle.occurrence.proofs.Reading.{enabled-told}
 use Rattle.rows.specs.Rows.{valuesOfWords, IsValue}

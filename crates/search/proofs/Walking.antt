@@ -22,17 +22,18 @@ use Rattle.semantics.proofs.Members.{number-member}
 use Rattle.semantics.proofs.Leaves.{Sound, sound-fits, sound-next, sound-leaf}
 use Rattle.semantics.proofs.Menu.{binding-full}
 use Rattle.occurrence.specs.Answers.{IsEnabledAt}
-use Rattle.plans.specs.declared.element.Element.{Element as CodeElement}
-use Rattle.plans.specs.Plan.{sorted}
+use Rattle.elements.specs.declared.element.Element.{Element as CodeElement}
+use Rattle.elements.specs.Bound.{sorted}
 use Rattle.rows.specs.Rows.{valuesOfWords, IsValue, Listing, listingOf}
 use Rattle.arrivals.specs.declared.step.Step.{Step}
 use Rattle.tries.specs.Partial.{partialOf, IsTried, IsSaved}
-use Rattle.tries.specs.Known.{Knows}
+use Rattle.matches.specs.Known.{Knows}
 use Rattle.arrivals.specs.Step.{Safe, Ready, triesBy, IsArrival}
 use Rattle.arrivals.specs.World.{World}
 use Rattle.arrivals.proofs.Tries.{arrival-ready, arrival-tries, tries-length}
-use Rattle.search.specs.declared.progress.Progress.{Progress}
-use Rattle.search.specs.Search.{costFrom, rowsFrom, Unspent, Ended, IsLeaf}
+use Rattle.leaves.specs.declared.progress.Progress.{Progress}
+use Rattle.search.specs.Search.{costFrom, rowsFrom}
+use Rattle.leaves.specs.Leaf.{Unspent, Ended, IsLeaf}
 use Rattle.search.proofs.Trying.{rowsOver}
 use Rattle.search.proofs.Worlds.{next-element, as-many}
 use Rattle.search.proofs.Values.{slots-values, enabled-full}

@@ -1,22 +1,15 @@
--- What a search comes to: the tries held against the budget, and the enabled bindings among the rows of the menu.
--- Rests on semantics/specs/{Tries, Run, Calls} and rows/specs/Rows.
-use mathlib.Core.Path.{_≡_}
-use mathlib.Core.Bool.{Bool, false, cond}
-use mathlib.Core.List.{List, [], map}
-use Prim.Native.Nat.{ℕ, _+_, _*_, _≤_}
-use lib.Dec.{leb}
+-- What a search comes to: its tries, and the enabled bindings among its leaves.
+-- Rests on semantics/specs/{Tries, Enabling, Calls}.
+use mathlib.Core.List.{List, map}
+use Prim.Native.Nat.{ℕ}
 use lib.IntN.{ℤ}
-use lib.ListN.{length, drop}
 use Rattle.semantics.specs.declared.Listed.{Listed}
-use Rattle.semantics.specs.Lists.{consIf, select}
+use Rattle.semantics.specs.Lists.{select}
 use Rattle.semantics.specs.Expression.{houseTable}
 use Rattle.semantics.specs.Net.{Element}
 use Rattle.semantics.specs.Enabling.{isEnabled}
 use Rattle.semantics.specs.Tries.{Partial, bindingOf, triesFrom, leavesFrom}
 use Rattle.semantics.specs.Calls.{Situation, MenuEnd}
-use Rattle.occurrence.specs.Answers.{IsEnabledAt}
-use Rattle.rows.specs.Rows.{valuesOfWords, Kept, Listing, addAll, listingOf}
-use Rattle.search.specs.declared.progress.Progress.{Progress}
 
 -- ── Tries and rows from a partial binding on ──
 
@@ -27,46 +20,6 @@ costFrom s es p = triesFrom houseTable (s .net) (s .transition) (s .counts) es p
 -- the enabled bindings among the leaves, in the order in which they are come to
 abbrev pub rowsFrom : Situation → List Element → Partial → List (List ℤ)
 rowsFrom s es p = select (isEnabled houseTable (s .transition) (s .counts)) (map bindingOf (leavesFrom houseTable (s .net) (s .transition) (s .counts) es p))
-
--- ── Budget and room ──
-
--- a search is past its budget, or it made so many tries and lists these rows
-pub data Outcome : Type 0 where
-  exhausted : Outcome
-  reached : ℕ → Listing → Outcome
-
--- so many tries held against the budget
-abbrev pub settle : ℕ → ℕ → Listing → Outcome
-settle budget t l = cond (leb t budget) (reached t l) exhausted
-
--- the outcome that the code's numbers and the menu stand for
-abbrev pub outcomeOf : ℕ → Progress → List ℕ → Outcome
-outcomeOf w s m = cond (s .spent) exhausted (reached (s .tries) (listingOf w (s .rows) (s .full) m))
-
--- ── What the code's answers say ──
-
--- the rows are at the front of the menu, with room for `most`
-pub record Held (w most n : ℕ) (m : List ℕ) : Type 0 where
-  pub kept : Kept w n m
-  pub within : n ≤ most
-  pub room : most * w ≤ length m
-
--- the budget is not spent
-pub record Unspent (budget : ℕ) (s : Progress) : Type 0 where
-  pub paid : s .tries ≤ budget
-  pub on : s .spent ≡ false
-
--- what so many tries more and these rows more leave, from n rows in the menu m on
-pub record Ended (w most budget n : ℕ) (m : List ℕ) (t : ℕ) (l : Listing) (cost : ℕ) (rows : List (List ℤ)) (s′ : Progress) (m′ : List ℕ) : Type 0 where
-  pub kept : Kept w (s′ .rows) m′
-  pub within : s′ .rows ≤ most
-  pub grown : n ≤ s′ .rows
-  pub beyond : drop (s′ .rows * w) m′ ≡ drop (s′ .rows * w) m
-  pub outcome : outcomeOf w s′ m′ ≡ settle budget (t + cost) (addAll most rows l)
-
--- a full binding b is put among the rows where it is enabled, which u tells
-pub record IsLeaf (ws ps conjuncts inputs ms begins : List ℕ) (most : ℕ) (b : List ℕ) (s : Progress) (m : List ℕ) (s′ : Progress) (m′ : List ℕ) : Type 0 where
-  pub ended : (budget : ℕ) → Unspent budget s → (u : Bool) → ((r : Bool) → IsEnabledAt ws ps conjuncts inputs ms begins b r → r ≡ u) → Ended (length b) most budget (s .rows) m (s .tries) (listingOf (length b) (s .rows) (s .full) m) 0 (consIf u (valuesOfWords b) []) s′ m′
 
 -- answer and menu, as the definition of the call has them
 abbrev pub menuEnd : Listed → List ℕ → MenuEnd

@@ -1,10 +1,10 @@
 // The search: from a partial binding over the rest of the plan, each try counted against the budget.
-use crate::leaf::leaf;
-use crate::progress::Progress;
 use arrivals::step::arrive;
 use arrivals::step::try_at;
-use plans::element::Element;
-use plans::element::element_of;
+use elements::element::Element;
+use elements::element::element_of;
+use leaves::leaf::leaf;
+use leaves::progress::Progress;
 use tries::partial::restore;
 use tries::partial::save;
 use word::fields::payload;
@@ -14,12 +14,13 @@ ghost use lib.ListN.{length, getD, drop};
 ghost use Rattle.semantics.specs.Word.{payload, bits};
 ghost use Rattle.semantics.specs.ReadNet.{sortOf};
 ghost use Rattle.semantics.proofs.Leaves.{Sound};
-ghost use Rattle.plans.specs.Plan.{sorted};
+ghost use Rattle.elements.specs.Bound.{sorted};
 ghost use Rattle.rows.specs.Rows.{listingOf};
 ghost use Rattle.tries.specs.Partial.{partialOf};
 ghost use Rattle.arrivals.specs.World.{World};
 ghost use Rattle.search.specs.Scene.{sceneOf};
-ghost use Rattle.search.specs.Search.{costFrom, rowsFrom, Held, Unspent, Ended};
+ghost use Rattle.search.specs.Search.{costFrom, rowsFrom};
+ghost use Rattle.leaves.specs.Leaf.{Held, Unspent, Ended};
 
 // The element at a position.
 fn element_at(net: &[u32], at: usize) -> Element

@@ -24,14 +24,15 @@ use Rattle.semantics.proofs.Tests.{false-true}
 use Rattle.semantics.proofs.Readers.{Gives, gives, given, then-gives, as-read}
 use Rattle.semantics.proofs.Accepted.{SoundExpression, expression-reads}
 use Rattle.semantics.proofs.Fitness.{Solves, solution-solves}
-use Rattle.word.specs.declared.number.Number.{Number}
-use Rattle.word.specs.declared.number.Number.the-variants.{Some, None}
-use Rattle.word.specs.Number.{number}
-use Rattle.expression.specs.declared.evaluate.Evaluated.{Evaluated}
-use Rattle.expression.specs.declared.evaluate.Evaluated.the-variants.{Value, NoValue, Nothing}
-use Rattle.expression.specs.Evaluate.{valueOf, lent, evaluated, evaluatedFrom}
+use Rattle.numbers.specs.declared.number.Number.{Number}
+use Rattle.numbers.specs.declared.number.Number.the-variants.{Some, None}
+use Rattle.numbers.specs.Number.{number}
+use Rattle.evaluation.specs.declared.evaluate.Evaluated.{Evaluated}
+use Rattle.evaluation.specs.declared.evaluate.Evaluated.the-variants.{Value, NoValue, Nothing}
+use Rattle.evaluation.specs.Evaluate.{valueOf, lent, evaluated, evaluatedFrom}
 use Rattle.expression.proofs.Spelled.{HeadWord, headOfTree}
-use Rattle.expression.proofs.Laws.{expression-short, first-word, variable-alone, read-evaluates, read-value, read-no-value}
+use Rattle.expression.proofs.Laws.{expression-short, first-word, variable-alone}
+use Rattle.evaluation.proofs.Answers.{read-evaluates, read-value, read-no-value}
 use Rattle.net.proofs.Placed.{word-here}
 use Rattle.solving.specs.declared.solve.Lone.the-variants.{Unbound, Nothing as NotLone}
 use Rattle.tries.specs.Partial.{partialOf, boundBy}

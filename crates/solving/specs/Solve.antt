@@ -1,5 +1,5 @@
 -- What a solve tries, told from the words of its conjunct. In an accepted plan one side fits, so a look at the left side decides which.
--- Rests on semantics/specs/{Plan, Tries}, expression/specs/Evaluate and Partial.
+-- Rests on semantics/specs/{Plan, Tries}, evaluation/specs/Evaluate and Partial.
 use mathlib.Core.Path.{_≡_}
 use mathlib.Core.Bool.{Bool, true, false, cond}
 use mathlib.Core.List.{List}
@@ -15,7 +15,7 @@ use Rattle.semantics.specs.Net.{Conjunct}
 use Rattle.semantics.specs.ReadNet.{readExpression, readConjunct}
 use Rattle.semantics.specs.Plan.{Solution, eitherSide}
 use Rattle.semantics.specs.Tries.{Partial, partly, isBoundIn, bindNew}
-use Rattle.expression.specs.Evaluate.{lent, Valuation, valued, unread, evaluatedFrom}
+use Rattle.evaluation.specs.Evaluate.{lent, Valuation, valued, unread, evaluatedFrom}
 use Rattle.solving.specs.declared.solve.Lone.{Lone}
 use Rattle.solving.specs.declared.solve.Lone.the-variants.{Unbound, Nothing}
 use Rattle.tries.specs.Partial.{partialOf, boundBy}

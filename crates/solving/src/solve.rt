@@ -1,12 +1,12 @@
 // A solve try: the lone unbound variable on one side of an equation takes the value of the other side. That a side fits was settled when the plan
 // was accepted, so one look at the left side decides.
-use expression::evaluate::Evaluated;
-use expression::evaluate::evaluate;
-use expression::evaluate::value_of;
+use evaluation::evaluate::Evaluated;
+use evaluation::evaluate::evaluate;
+use evaluation::evaluate::value_of;
+use numbers::number::Number;
 use tries::partial::bind_new;
 use word::fields::kind;
 use word::fields::payload;
-use word::number::Number;
 ghost use mathlib.Core.Path.{_≡_};
 ghost use Prim.Native.Nat.{_≤_, _<_, _+_};
 ghost use lib.ListN.{length};

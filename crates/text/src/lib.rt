@@ -4,5 +4,3 @@
 pub mod put;
 // Numbers and values.
 pub mod number;
-// Lines.
-pub mod line;

@@ -12,8 +12,8 @@ use Rattle.semantics.specs.Word.{within, valueWord}
 use Rattle.semantics.specs.Tries.{bindNew}
 use Rattle.word.specs.Fields.{rangeWord}
 use Rattle.word.proofs.Words.{range-small}
-use Rattle.expression.specs.Evaluate.{valueOf}
-use Rattle.expression.proofs.Laws.{lent-bound}
+use Rattle.evaluation.specs.Evaluate.{valueOf}
+use Rattle.evaluation.proofs.Answers.{lent-bound}
 use Rattle.net.specs.Places.{rangesFrom}
 use Rattle.tries.specs.Partial.{partialOf}
 use Rattle.tries.proofs.Slots.{slots-set}

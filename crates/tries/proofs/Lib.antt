@@ -1,6 +1,4 @@
 pub mod Slots
 pub mod Saving
 pub mod Binding
-pub mod Agreeing
-pub mod Knowing
 pub mod Ranging

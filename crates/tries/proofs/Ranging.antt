@@ -17,7 +17,7 @@ use Rattle.semantics.specs.Order.{valuesFrom, valuesOfRange}
 use Rattle.semantics.proofs.Tests.{false-true, either, cond-true}
 use Rattle.word.specs.Fields.{rangeWord}
 use Rattle.word.proofs.Words.{bits-low, signed-low, signed-high}
-use Rattle.expression.specs.Evaluate.{valueOf}
+use Rattle.evaluation.specs.Evaluate.{valueOf}
 use Rattle.tries.specs.Range.{valueAt, CountsValues, upFrom}
 
 -- ── Bits and values ──

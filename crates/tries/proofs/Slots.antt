@@ -9,7 +9,7 @@ use native.Mathlib.Omega.{arith}
 use lib.IntN.{ℤ}
 use lib.ListN.{take, set, getD}
 use Rattle.semantics.specs.Tries.{Partial, partly}
-use Rattle.expression.specs.Evaluate.{valueOf, lent}
+use Rattle.evaluation.specs.Evaluate.{valueOf, lent}
 use Rattle.tries.specs.Partial.{partialOf, IsTried}
 
 -- a slot of words is the variable of the partial binding

@@ -1,3 +1,2 @@
 pub mod Partial
-pub mod Known
 pub mod Range

@@ -1,4 +1,4 @@
-// The leaf functions on words and signed numbers. Each contract is one equation with a definition of semantics/specs.
+// The leaf functions on words. Each contract is one equation with a definition of semantics/specs.
 
 // Words from little-endian bytes.
 pub mod bytes;
@@ -6,5 +6,3 @@ pub mod bytes;
 pub mod size;
 // Fields of words, values, and the words that are written.
 pub mod fields;
-// Numbers that may be missing: operators, the load table and relations.
-pub mod number;

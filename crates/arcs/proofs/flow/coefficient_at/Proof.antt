@@ -4,7 +4,7 @@ use mir.Syntax.{w32}
 use mir.Val.{SFits}
 use borrow.Author.Needs.{needs, sfits-of}
 use Rattle.word.proofs.Read.{negative, natural, read-natural}
-use Rattle.arcs.proofs.Evaluating.{has-value, has-none, is-unread}
+use Rattle.evaluation.proofs.Answers.{has-value, has-none, is-unread}
 use Rattle.arcs.proofs.Flowing.{coefficient-refused, coefficient-none, coefficient-negative, coefficient-natural}
 use Rattle.arcs.proofs.flow.coefficient_at.Statement.{statement}
 use Rattle.arcs.proofs.flow.coefficient_at.Tie as tie

@@ -4,7 +4,7 @@ use Prim.Native.Nat.{_-_}
 use native.Mathlib.Omega.{arith}
 use borrow.Author.Needs.{needs}
 use Rattle.word.proofs.Read.{read-back}
-use Rattle.arcs.proofs.Evaluating.{has-value, has-none, is-unread}
+use Rattle.evaluation.proofs.Answers.{has-value, has-none, is-unread}
 use Rattle.arcs.proofs.Packing.{Packing, packing-start, packing-room, packing-turn, packing-none, packing-unread, packing-code, packing-outside}
 use Rattle.arcs.proofs.flow.pack.Statement.{statement}
 use Rattle.arcs.proofs.flow.pack.Tie as tie

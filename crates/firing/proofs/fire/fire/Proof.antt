@@ -3,7 +3,7 @@ use mathlib.Core.Path.{_≡_, sym, _∙_}
 use native.Mathlib.Omega.{arith}
 use lib.ListN.{length, length-map}
 use lib.Seq.{length-take-le}
-use Rattle.occurrence.proofs.Testing.{variables-inside}
+use Rattle.testing.proofs.Testing.{variables-inside}
 use Rattle.firing.proofs.Calling.{fire-refused, fire-unbound, fireable, fire-answers}
 use borrow.Author.Needs.{needs}
 use Rattle.firing.proofs.fire.fire.Statement.{statement}

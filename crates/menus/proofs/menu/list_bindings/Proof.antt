@@ -6,7 +6,7 @@ use borrow.Author.Needs.{needs}
 use lib.ListN.{length, take, replicate}
 use lib.Seq.{length-take-le}
 use Rattle.rows.specs.Rows.{rowsOf}
-use Rattle.search.specs.Search.{Held}
+use Rattle.leaves.specs.Leaf.{Held}
 use Rattle.search.proofs.Worlds.{few-variables}
 use Rattle.menus.proofs.Listing.{held-none, most-roomy, start-sound, listed-10, listed-11, listed-found, ended-most}
 use Rattle.menus.proofs.menu.list_bindings.Statement.{statement}

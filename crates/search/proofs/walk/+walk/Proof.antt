@@ -10,18 +10,19 @@ use borrow.Fn.PlainCycle.{Measures, is, falls, and}
 use lib.ListN.{length, drop}
 use Rattle.semantics.specs.Expression.{houseTable}
 use Rattle.semantics.specs.Tries.{tries}
-use Rattle.plans.specs.Plan.{sorted}
+use Rattle.elements.specs.Bound.{sorted}
 use Rattle.rows.specs.Rows.{listingOf}
 use Rattle.tries.specs.Partial.{partialOf}
 use Rattle.search.specs.Scene.{sceneOf}
-use Rattle.search.specs.Search.{costFrom, rowsFrom, Held}
+use Rattle.search.specs.Search.{costFrom, rowsFrom}
+use Rattle.leaves.specs.Leaf.{Held}
 use Rattle.search.proofs.Trying.{Trying, trying-start, ended-all, ended-spent, trying-skip, trying-same, ended-stop, trying-turn}
 use Rattle.search.proofs.Worlds.{few-variables, few-inputs, few-elements, ranges-fit, next-element}
 use Rattle.search.proofs.Walking.{ended-same, leaf-values, walked-leaf, stepping, try-on, try-off, try-left, back, kept-of, knows-of}
 use Rattle.search.proofs.walk.walk.Reads as walk
 use Rattle.search.proofs.walk.walk.Kinds as walk-kinds
 use Rattle.search.proofs.walk.+walk.Lts-walk as walk-lts
-use Rattle.search.proofs.leaf.leaf.Reads as leaf-reads
+use Rattle.leaves.proofs.leaf.leaf.Reads as leaf-reads
 use Rattle.search.proofs.walk.element_at.Reads as element-at-reads
 use Rattle.tries.proofs.partial.restore.Reads as restore-reads
 use Rattle.tries.proofs.partial.save.Reads as save-reads

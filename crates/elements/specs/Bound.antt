@@ -1,0 +1,35 @@
+-- What the answers of src/ say of elements: which one a word is, and which variables are bound.
+use mathlib.Core.Path.{_≡_}
+use Prim.Native.Nat.{ℕ}
+use mathlib.Core.Bool.{Bool, true, false, _||_}
+use mathlib.Core.List.{List, [], _∷_}
+use mathlib.Core.Option.{some}
+use lib.ListN.{getD}
+use Rattle.semantics.specs.Net as net
+use Rattle.semantics.specs.Plan.{member}
+use Rattle.elements.specs.declared.element.Sort.{Sort}
+use Rattle.elements.specs.declared.element.Sort.the-variants.{Match, Solve, Range}
+use Rattle.elements.specs.declared.bind.Bound.{Bound}
+
+-- the element that semantics has for each case
+abbrev pub sorted : Sort → net.Sort
+sorted (Match k) = net.match k
+sorted (Solve k) = net.solve k
+sorted (Range n) = net.range n
+
+-- a variable is marked as bound
+abbrev pub marked : List Bool → ℕ → Bool
+marked marks n = getD marks n false
+
+abbrev pub nonEmpty : List ℕ → Bool
+nonEmpty [] = false
+nonEmpty (n ∷ ns) = true
+
+-- r has the marks of b and those of the variables ns, and says whether there is one
+pub record IsBound (b : Bound) (ns : List ℕ) (r : Bound) : Type 0 where
+  pub some : r .some ≡ (nonEmpty ns || b .some)
+  pub marks : (k : ℕ) → marked (r .marks) k ≡ (member ns k || marked (b .marks) k)
+
+-- these marks, nothing being bound just now
+abbrev pub fresh : List Bool → Bound
+fresh marks = record { some = false; marks = marks }

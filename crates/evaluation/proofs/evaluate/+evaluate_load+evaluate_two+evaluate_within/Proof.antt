@@ -1,0 +1,91 @@
+-- The proof of the cycle of calls {evaluate_load, evaluate_two, evaluate_within}. The measure is twice the words left, and one more behind an operator, whose
+-- operands are evaluated with all words left. Each arm is a rule of `Evaluating`.
+use Prim.Native.Nat.{ℕ, _+_, _*_, _<_}
+use borrow.Fn.Kinds.{In}
+use borrow.Fn.PlainCycle.{Measures, is, falls, and}
+use Rattle.evaluation.proofs.Evaluating.{evaluating, operating}
+use Rattle.numbers.proofs.number.apply_load.Reads as apply-load
+use Rattle.numbers.proofs.number.operate.Reads as operate
+use Rattle.expression.proofs.head.head_at.Reads as head-at
+use Rattle.evaluation.proofs.evaluate.value_of.Reads as value-of
+use Rattle.evaluation.proofs.evaluate.evaluate_load.Reads as load
+use Rattle.evaluation.proofs.evaluate.evaluate_load.Kinds as load-kinds
+use Rattle.evaluation.proofs.evaluate.+evaluate_load+evaluate_two+evaluate_within.Lts-evaluate_load as load-lts
+use Rattle.evaluation.proofs.evaluate.evaluate_two.Reads as two
+use Rattle.evaluation.proofs.evaluate.evaluate_two.Kinds as two-kinds
+use Rattle.evaluation.proofs.evaluate.+evaluate_load+evaluate_two+evaluate_within.Lts-evaluate_two as two-lts
+use Rattle.evaluation.proofs.evaluate.evaluate_within.Reads as within
+use Rattle.evaluation.proofs.evaluate.evaluate_within.Kinds as within-kinds
+use Rattle.evaluation.proofs.evaluate.+evaluate_load+evaluate_two+evaluate_within.Lts-evaluate_within as within-lts
+use Rattle.evaluation.proofs.evaluate.+evaluate_load+evaluate_two+evaluate_within.{statement}
+use Rattle.evaluation.proofs.evaluate.+evaluate_load+evaluate_two+evaluate_within.Tie.{close}
+
+-- ── Measures ──
+
+abbrev μ-load : Measures 2 load-kinds.ps ℕ
+μ-load κs a = 2 * a .1 .1 .1 .0 + 1
+
+abbrev μ-two : Measures 2 two-kinds.ps ℕ
+μ-two κs a = 2 * a .1 .1 .1 .1 .0 + 1
+
+abbrev μ-within : Measures 2 within-kinds.ps ℕ
+μ-within κs a = 2 * a .1 .1 .1 .0
+
+-- ── What a function is given at the measure t, and what is asked of it below t ──
+
+abbrev load-at : ℕ → In 2 load-kinds.ps
+load-at t = and 2 load-kinds.ps (is 2 load-kinds.ps μ-load t) load.Pre
+
+abbrev load-below : ℕ → In 2 load-kinds.ps
+load-below t = and 2 load-kinds.ps (falls 2 load-kinds.ps _<_ μ-load t) load.Pre
+
+abbrev two-at : ℕ → In 2 two-kinds.ps
+two-at t = and 2 two-kinds.ps (is 2 two-kinds.ps μ-two t) two.Pre
+
+abbrev two-below : ℕ → In 2 two-kinds.ps
+two-below t = and 2 two-kinds.ps (falls 2 two-kinds.ps _<_ μ-two t) two.Pre
+
+abbrev within-at : ℕ → In 2 within-kinds.ps
+within-at t = and 2 within-kinds.ps (is 2 within-kinds.ps μ-within t) within.Pre
+
+abbrev within-below : ℕ → In 2 within-kinds.ps
+within-below t = and 2 within-kinds.ps (falls 2 within-kinds.ps _<_ μ-within t) within.Pre
+
+pub +evaluate-load+evaluate-two+evaluate-within-spec : {M : Type 1} → statement M
++evaluate-load+evaluate-two+evaluate-within-spec =
+    close μ-load μ-two μ-within
+    (λ t. load-lts.spec (within-below t, within.Post, apply-load.Asked, apply-load.Learnt) (load-at t) load.Post
+    (λ c. search operating)
+    (λ c. search operating)
+    (λ c. search operating)
+    (λ c. search operating)
+    (λ c. search operating)
+    (λ c. search operating))
+    (λ t. two-lts.spec (within-below t, within.Post, operate.Asked, operate.Learnt) (two-at t) two.Post
+    (λ c. search operating)
+    (λ c. search operating)
+    (λ c. search operating)
+    (λ c. search operating)
+    (λ c. search operating)
+    (λ c. search operating)
+    (λ c. search operating)
+    (λ c. search operating)
+    (λ c. search operating)
+    (λ c. search operating))
+    λ t. within-lts.spec (head-at.Asked, head-at.Learnt, value-of.Asked, value-of.Learnt, two-below t, two.Post, load-below t, load.Post) (within-at t) within.Post
+    (λ c. search evaluating)
+    (λ c. search evaluating)
+    (λ c. search evaluating)
+    (λ c. search evaluating)
+    (λ c. search evaluating)
+    (λ c. search evaluating)
+    (λ c. search evaluating)
+    (λ c. search evaluating)
+    (λ c. search evaluating)
+    (λ c. search evaluating)
+    (λ c. search evaluating)
+    (λ c. search evaluating)
+    (λ c. search evaluating)
+    (λ c. search evaluating)
+    (λ c. search evaluating)
+    (λ c. search evaluating)

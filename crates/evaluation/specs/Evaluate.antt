@@ -1,0 +1,69 @@
+-- An expression evaluated where it stands: the value of its tree under a binding of lent words.
+-- Rests on semantics/specs/ReadNet, numbers/specs/Number and expression/specs/Head.
+use mathlib.Core.Path.{_≡_}
+use mathlib.Core.Bool.{_&&_}
+use mathlib.Core.List.{List}
+use mathlib.Core.Option.{Option, none, some, bind}
+use Prim.Native.Nat.{ℕ, _+_, _<_}
+use lib.Dec.{eqb}
+use lib.IntN.{ℤ}
+use lib.ListN.{length, getElem?}
+use Rattle.semantics.specs.Word.{kind, payload, only, signed}
+use Rattle.semantics.specs.Expression.{Expression, Environment, given, houseTable, value}
+use Rattle.semantics.specs.Reading.{Reading, read, refused}
+use Rattle.semantics.specs.ReadNet.{binaryHead, loadHead, operands, expressionIn}
+use Rattle.word.specs.Operator.{operatorOf}
+use Rattle.numbers.specs.Number.{number}
+use Rattle.evaluation.specs.declared.evaluate.Evaluated.{Evaluated}
+use Rattle.evaluation.specs.declared.evaluate.Evaluated.the-variants.{Value, NoValue, Nothing}
+use Rattle.evaluation.specs.declared.evaluate.Outcome.{Outcome}
+use Rattle.evaluation.specs.declared.evaluate.Outcome.the-variants.{Gives, Nothing as Unread}
+use Rattle.expression.specs.Head.{Onward}
+
+-- "VALUE: 0-13 value": the value of a VALUE word
+abbrev pub valueOf : ℕ → Option ℤ
+valueOf w = given (eqb (kind w) 0xC && only 14 (payload w)) (signed (payload w))
+
+-- the environment of lent words: variable n is the word n, where that is a VALUE word
+abbrev pub lent : List ℕ → Environment
+lent bs n = bind (getElem? bs n) valueOf
+
+-- a value, which may be missing, and the position after its expression; or no expression
+pub data Valuation : Type 0 where
+  valued : Option ℤ → ℕ → Valuation
+  unread : Valuation
+
+abbrev pub evaluated : Evaluated → Valuation
+evaluated (Value z next) = valued (some z) next
+evaluated (NoValue next) = valued none next
+evaluated Nothing = unread
+
+-- the value of what is read
+abbrev pub evaluatedFrom : Environment → Reading Expression → Valuation
+evaluatedFrom env (read e next) = valued (value houseTable env e) next
+evaluatedFrom env (refused n p) = unread
+
+-- ── With the words left ──
+
+abbrev pub outcome : Outcome → Valuation
+outcome (Gives x next rest) = valued (number x) next
+outcome Unread = unread
+
+abbrev pub OutcomeOnward : List ℕ → ℕ → ℕ → Outcome → Type 0
+OutcomeOnward ws at left (Gives x next rest) = Onward ws at left next rest
+OutcomeOnward ws at left Unread = Unit {0}
+
+-- the value of the reading by any number of rounds above the words left
+pub record IsOutcome (ws bs : List ℕ) (at left : ℕ) (r : Outcome) : Type 0 where
+  pub same : (rounds stop : ℕ) → left < rounds → at + left ≡ stop → outcome r ≡ evaluatedFrom (lent bs) (expressionIn rounds ws (length bs) stop at)
+  pub onward : OutcomeOnward ws at left r
+
+-- the same of what follows an operator: two operands
+pub record IsTwo (ws bs : List ℕ) (k at left : ℕ) (r : Outcome) : Type 0 where
+  pub same : (rounds stop : ℕ) → left < rounds → at + left ≡ stop → outcome r ≡ evaluatedFrom (lent bs) (operands (expressionIn rounds ws (length bs) stop) (binaryHead (operatorOf k)) at)
+  pub onward : OutcomeOnward ws at left r
+
+-- and of what follows a load: one
+pub record IsLoaded (ws bs : List ℕ) (at left : ℕ) (r : Outcome) : Type 0 where
+  pub same : (rounds stop : ℕ) → left < rounds → at + left ≡ stop → outcome r ≡ evaluatedFrom (lent bs) (operands (expressionIn rounds ws (length bs) stop) loadHead at)
+  pub onward : OutcomeOnward ws at left r

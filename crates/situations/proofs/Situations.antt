@@ -1,0 +1,130 @@
+-- The rules of a situation: net, then transition, then marking. Each is told by its index; what the indexes have is what semantics reads,
+-- since each structure stands at its position.
+use mathlib.Core.Path.{_≡_, sym, ap, _∙_}
+use Prim.Native.Nat.{ℕ, min, _≤_, _<_}
+use mathlib.Core.List.{List, map}
+use mathlib.Core.Option.{some}
+use native.Mathlib.Omega.{arith}
+use lib.ListN.{length, getD, getElem?, take}
+use lib.Seq.{getD-take}
+use Rattle.semantics.specs.Refusal.{noTransition}
+use Rattle.semantics.specs.Reading.{Reading, read, refused}
+use Rattle.semantics.specs.Net.{Transition, Net}
+use Rattle.semantics.specs.ReadNet.{readNet, readTransition}
+use Rattle.semantics.specs.Plan.{acceptNet}
+use Rattle.semantics.specs.Marking.{Entry, readMarking}
+use Rattle.semantics.specs.Calls.{Situation as Situated, situation}
+use Rattle.semantics.proofs.Members.{length-at, past-elem, every-elem, map-elem}
+use Rattle.expression.specs.declared.read.Skipped.the-variants.{Next, Refused}
+use Rattle.expression.specs.Skip.{forget, skipped}
+use Rattle.expression.proofs.Laws.{passed-read, passed-refused, next-refused}
+use Rattle.net.specs.declared.index.NetIndex.{NetIndex}
+use Rattle.net.specs.declared.index.TransitionIndex.{TransitionIndex}
+use Rattle.net.specs.Skim.{changed, netOutline, width, skimTransition}
+use Rattle.net.specs.Index.{netRead, transitionRead}
+use Rattle.net.specs.Places.{placesAt, PlacesFit}
+use Rattle.net.proofs.Located.{At, net-transitions}
+use Rattle.net.proofs.Placed.{index-outline}
+use Rattle.accept.specs.declared.accepted.Extent.{Extent}
+use Rattle.accept.specs.Front.{IsExtent}
+use Rattle.accept.proofs.Checking.{to-all, index-refused}
+use Rattle.accept.proofs.Tables as tables
+use Rattle.marking.specs.declared.index.MarkingIndex.{MarkingIndex}
+use Rattle.marking.specs.Marked.{markingRead, IsMarking}
+use Rattle.situations.specs.declared.situation.Situation.{Situation}
+use Rattle.situations.specs.Situation.{Prepared, IsSituation}
+
+-- ── By the answers of the code ──
+
+module _ (ws ms : List ℕ) (t : ℕ) (r : Extent) {places widths transitions : List ℕ} (told-net : IsExtent ws (length ws) places widths transitions r) where
+  -- the index of the net, whose tables are lent
+  abbrev i : NetIndex
+  i = record { end = r .end; places = r .places; transitions = r .transitions; «places_at» = places; widths = widths; «transitions_at» = transitions }
+
+  x : netRead i ≡ changed netOutline (acceptNet ws)
+  x = told-net .same ∙ ap (changed netOutline) (to-all ws)
+
+  pub net-unaccepted : {n p : ℕ} (s : Situation) → i .end ≡ Refused n p → s .end ≡ i .end → IsSituation ws t ms s
+  unfolding situation
+  net-unaccepted {n} {p} s e d = record {
+    refuses = λ m q g. let a : Refused m q ≡ Refused n p = sym g ∙ d ∙ e in let b : _≡_ {A = Reading Situated} (refused n p) (refused m q) = cc in rw (index-refused (acceptNet ws) i x e) b;
+    prepares = λ next g. let a : Next next ≡ Refused n p = sym g ∙ d ∙ e in next-refused a;
+  }
+
+  module _ {next : ℕ} (e : i .end ≡ Next next) (full : length (i .«places_at») ≡ 64) (wide : length (i .widths) ≡ 64) (long : length (i .«transitions_at») ≡ 64) {q : ℕ} (less : q ≡ min (i .transitions) 64) where
+    abbrev net : Net
+    net = tables.net ws i x e
+
+    is-accepted : acceptNet ws ≡ read net next
+    is-accepted = tables.is-accepted ws i x e
+
+    reads : readNet ws 0 ≡ read net next
+    reads = tables.reads ws i x e
+
+    positions : map (λ (t : Transition). t .position) (net .transitions) ≡ take q (i .«transitions_at»)
+    positions = sym (tables.stand ws i x e full wide long less)
+
+    many : length (net .transitions) ≡ q
+    many = tables.many ws i x e full wide long less
+
+    pub places-fit : {p : ℕ} → p ≡ min (i .places) 64 → PlacesFit ws (take p (i .«places_at»))
+    places-fit few = tables.places-fit ws i x e full wide few
+
+    pub transition-unknown : (s : Situation) → q ≤ t → s .end ≡ Refused noTransition 0 → IsSituation ws t ms s
+    unfolding situation
+    transition-unknown s h d = record {
+      refuses = λ m p g. let a : Refused m p ≡ Refused noTransition 0 = sym g ∙ d in let b : _≡_ {A = Reading Situated} (refused noTransition 0) (refused m p) = cc in rw (is-accepted, past-elem (net .transitions) t (omega (arith, many))) b;
+      prepares = λ n g. let a : Next n ≡ Refused noTransition 0 = sym g ∙ d in next-refused a;
+    }
+
+    module _ (h : t < q) {p : ℕ} (few : p ≡ min (i .places) 64) (j : TransitionIndex) (y : transitionRead j ≡ skimTransition ws (take p (i .widths)) (getD (i .«transitions_at») t 0)) (m : MarkingIndex) (z : IsMarking (placesAt ws (take p (i .«places_at»))) ms m) where
+      known : (tr : Transition) × (getElem? (net .transitions) t ≡ some tr)
+      known = length-at (net .transitions) t (omega (arith, many))
+
+      at-position : getD (i .«transitions_at») t 0 ≡ known .0 .position
+      at-position = sym (getD-take q (i .«transitions_at») t 0 h) ∙ ap (λ (l : List ℕ). getD l t 0) (sym positions) ∙ map-elem (λ (t : Transition). t .position) (net .transitions) t (known .0) 0 (known .1)
+
+      stands : At (readTransition ws (net .places)) (λ (t : Transition). t .position) (known .0)
+      stands = every-elem (At (readTransition ws (net .places)) (λ (t : Transition). t .position)) (net .transitions) t (known .0) (net-transitions ws 0 net next reads) (known .1)
+
+      reads-transition : readTransition ws (net .places) (getD (i .«transitions_at») t 0) ≡ read (known .0) (stands .next)
+      reads-transition = rw at-position (stands .reads)
+
+      placed : net .places ≡ placesAt ws (take p (i .«places_at»))
+      placed = tables.placed ws i x e full wide few
+
+      widths-same : take p (i .widths) ≡ map width (net .places)
+      widths-same = tables.widths-are ws i x e full wide few
+
+      pub told : (s : Situation) → s .end ≡ m .end → s .places ≡ p → s .«places_at» ≡ i .«places_at» → s .position ≡ getD (i .«transitions_at») t 0 → s .transition ≡ j → s .begins ≡ m .begins → IsSituation ws t ms s
+      unfolding situation readMarking markingRead
+      told s a b c d f g = record { refuses = stops; prepares = goes }
+        where
+          marking : skipped (m .end) ≡ forget (markingRead (net .places) ms)
+          marking = rw placed (z .same)
+
+          stops : (n o : ℕ) → s .end ≡ Refused n o → situation ws t ms ≡ refused n o
+          stops n o k = rw (is-accepted, known .1, passed-refused (markingRead (net .places) ms) (m .end) marking (sym a ∙ k))
+
+          goes : (n : ℕ) → s .end ≡ Next n → Prepared ws t ms s
+          goes n k = by (passed-read (markingRead (net .places) ms) (m .end) marking (sym a ∙ k))
+            where
+              by : (es : List Entry) × (markingRead (net .places) ms ≡ read es n) → Prepared ws t ms s
+              by (es, r) = record {
+                net = net;
+                whole = next;
+                transition = known .0;
+                after = stands .next;
+                entries = es;
+                end = n;
+                accepted = is-accepted;
+                named = known .1;
+                few = omega (arith, few, b);
+                placed = rw (b, c) placed;
+                fits = rw (b, c) (places-fit few);
+                there = rw d reads-transition;
+                outlines = rw f (index-outline ws (net .places) (getD (i .«transitions_at») t 0) j (rw widths-same at y) (known .0) (stands .next) reads-transition .0);
+                marked = r;
+                begins = record { at = λ o l. rw g (z .begins es n (rw placed at r) o l) };
+                same = rw (is-accepted, known .1, r);
+              }

@@ -1,0 +1,130 @@
+-- The rules of a step: the changes of its keys lead to the counts after it, so the words with the changes made are the words of these counts.
+use mathlib.Core.Path.{_≡_, refl, sym, ap, _∙_}
+use mathlib.Core.Bool.{true, false}
+use mathlib.Core.List.{List, [], _∷_, _++_, map, List·Memᴰ, Memᴰ·map, Memᴰ·append-left, Memᴰ·append-right}
+use Prim.Native.Nat.{ℕ, zero, suc, _+_, _-_, _≤_, _<_}
+use borrow.Author.Tests.{le-leb, lt-leb, not-true, not-false}
+use native.Mathlib.Omega.{arith}
+use lib.IntN.{ℤ}
+use lib.ListN.{length, drop}
+use Rattle.semantics.specs.declared.Fired.the-variants.{Written, Refused as FireRefused}
+use Rattle.semantics.specs.Refusal.{overCount, overRoom, mostWords}
+use Rattle.semantics.specs.Lists.{Every, every}
+use Rattle.semantics.specs.Reading.{read}
+use Rattle.semantics.specs.Order.{before, Rising}
+use Rattle.semantics.specs.Marking.{Entry, key, Counts, markingWords}
+use Rattle.semantics.specs.Enabling.{total}
+use Rattle.semantics.proofs.Tests.{Every-at, Every-of}
+use Rattle.semantics.proofs.Markings.{total-some}
+use Rattle.marking.specs.Marked.{markingRead}
+use Rattle.arcs.specs.Keys.{keyPlace, keyColour, keyFlows, KeyFits}
+use Rattle.arcs.proofs.Keyed.{keys-before, flow-keyed}
+use Rattle.patch.specs.Patch.{Change, changeKey, patched, Told, Untouched, Changing, InOrder}
+use Rattle.patch.proofs.Patched.{patched-words, patched-ordered, patched-size}
+use Rattle.steps.specs.declared.step.Listed.{Listed}
+use Rattle.changes.specs.Keys.{sortKeys, keysFrom}
+use Rattle.changes.specs.Changes.{after, within, changeAt, changesFrom}
+use Rattle.steps.specs.Steps.{IsListed, Stepping, Writable, IsWritten, IsStep}
+use Rattle.changes.proofs.Sorted.{Up, sort-in, sort-of, keys-all, keys-up}
+use Rattle.steps.proofs.Measuring.{all-fit}
+
+-- ── The changes of a step ──
+
+-- changes of rising keys rise
+changes-rise : (ws ps : List ℕ) (es : List Entry) (m′ : Counts) (ks : List ℕ) → Every (KeyFits ws ps) ks → Up ks → Rising changeKey (map (changeAt ws ps es m′) ks)
+changes-rise ws ps es m′ [] e u = tt
+changes-rise ws ps es m′ (k ∷ ks) e u = (later ks (e .1) (u .0), changes-rise ws ps es m′ ks (e .1) (u .1))
+  where
+    later : (js : List ℕ) → Every (KeyFits ws ps) js → Every (λ y. k < y) js → Every (λ t. before (key (keyPlace k) (keyColour ws ps k)) (changeKey t) ≡ true) (map (changeAt ws ps es m′) js)
+    later [] f v = tt
+    later (j ∷ js) f v = (keys-before (e .0) (f .0) (v .0), later js (f .1) (v .1))
+
+changes-told : (ws ps : List ℕ) (es : List Entry) (m′ : Counts) (ks : List ℕ) → Every (Told es m′) (map (changeAt ws ps es m′) ks)
+changes-told ws ps es m′ [] = tt
+changes-told ws ps es m′ (k ∷ ks) = (record { at = refl; old = refl; count = refl }, changes-told ws ps es m′ ks)
+
+-- what no change names is moved by no key
+unnamed : (ws ps ks as′ all : List ℕ) (es : List Entry) (m′ : Counts) (p : ℕ) (c : List ℤ) → ((k : ℕ) → List·Memᴰ k ks → List·Memᴰ k all) → Untouched (map (changeAt ws ps es m′) all) (key p c) → total (keyFlows ws ps ks as′) p c ≡ 0
+unnamed ws ps ks as′ all es m′ p c i u = by (total (keyFlows ws ps ks as′) p c) refl
+  where
+    by : (n : ℕ) → total (keyFlows ws ps ks as′) p c ≡ n → n ≡ 0
+    by zero q = refl
+    by (suc n) q =
+        let g = total-some (keyFlows ws ps ks as′) p c (omega arith) in
+        let k = flow-keyed ws ps ks as′ (g .1) in
+        let a : keyPlace (k .0) ≡ p = sym (k .2) ∙ g .2 in
+        let b : keyColour ws ps (k .0) ≡ c = sym (k .3) ∙ g .3 in
+        absurd (u (changeAt ws ps es m′ (k .0)) (Memᴰ·map (changeAt ws ps es m′) (i (k .0) (k .1))) (ap (λ (q : ℕ). key q (keyColour ws ps (k .0))) a ∙ ap (key p) b))
+
+module _ {ws ps ik ia ok oa ms begins : List ℕ} (q : Stepping ws ps ik ia ok oa ms begins) where
+  abbrev new : Counts
+  new = after ws ps ik ia ok oa (q .entries)
+
+  abbrev all : List Change
+  all = changesFrom ws ps (q .entries) (after ws ps ik ia ok oa (q .entries)) (ik ++ ok) 0
+
+  marked : markingRead (q .net .places) ms ≡ read (q .entries) (q .sees .next)
+  marked = rw (q .placed) (q .sees .marked)
+
+  keys-fit : Every (KeyFits ws ps) (keysFrom 0 (ik ++ ok))
+  keys-fit = rw (keys-all (ik ++ ok)) (Every-of (KeyFits ws ps) (sortKeys (ik ++ ok)) (λ k i. Every-at (KeyFits ws ps) (all-fit (q .moves)) (sort-of (ik ++ ok) i)))
+
+  in-keys : (k : ℕ) → List·Memᴰ k (ik ++ ok) → List·Memᴰ k (keysFrom 0 (ik ++ ok))
+  in-keys k i = rw (keys-all (ik ++ ok)) (sort-in (ik ++ ok) i)
+
+  module _ (l : every (within ws ps (after ws ps ik ia ok oa (q .entries))) (keysFrom 0 (ik ++ ok)) ≡ true) where
+    changing : Changing (q .net) (q .entries) new all
+    changing = record {
+      rises = changes-rise ws ps (q .entries) new (keysFrom 0 (ik ++ ok)) keys-fit (keys-up (ik ++ ok));
+      told = changes-told ws ps (q .entries) new (keysFrom 0 (ik ++ ok));
+      kept = λ p c u. let a = unnamed ws ps ik ia (keysFrom 0 (ik ++ ok)) (q .entries) new p c (λ k i. in-keys k (Memᴰ·append-left ok i)) u in let b = unnamed ws ps ok oa (keysFrom 0 (ik ++ ok)) (q .entries) new p c (λ k i. in-keys k (Memᴰ·append-right ik i)) u in omega arith;
+      proper = q .proper l;
+    }
+
+    step-ordered : InOrder ms 0 all
+    step-ordered = patched-ordered (q .net .places) ms (q .entries) (q .sees .next) marked (q .net) new all changing
+
+    step-words : patched ms 0 all ≡ markingWords (q .net) new
+    step-words = patched-words (q .net .places) ms (q .entries) (q .sees .next) marked (q .net) new all changing
+
+-- ── 15, 16, or the new marking ──
+
+module _ {ws ps ik ia ok oa ms begins : List ℕ} {r : Listed} {keys ats olds counts : List ℕ} (x : IsListed ws ps ik ia ok oa ms begins r keys ats olds counts) (buffer : List ℕ) where
+  pub step-over : r .over ≡ true → IsStep ws ps ik ia ok oa ms begins buffer (FireRefused overCount 0) buffer
+  step-over t = record { fired = λ q. let w = not-true (every (within ws ps (after ws ps ik ia ok oa (q .entries))) (keysFrom 0 (ik ++ ok))) (sym (x .measured .over (q .entries) (q .sees)) ∙ t) in rw w }
+
+  module _ (t : r .over ≡ false) where
+    step-limited : (q : Stepping ws ps ik ia ok oa ms begins) → every (within ws ps (after ws ps ik ia ok oa (q .entries))) (keysFrom 0 (ik ++ ok)) ≡ true
+    step-limited q = not-false _ (sym (x .measured .over (q .entries) (q .sees)) ∙ t)
+
+    -- the length told from what was measured
+    sized : (q : Stepping ws ps ik ia ok oa ms begins) → length (patched ms 0 (changesFrom ws ps (q .entries) (after ws ps ik ia ok oa (q .entries)) (ik ++ ok) 0)) + r .old ≡ length ms + r .new
+    sized q = rw (x .measured .old (q .entries) (q .sees) t, x .measured .new (q .entries) (q .sees) t) (patched-size ms (changesFrom ws ps (q .entries) (after ws ps ik ia ok oa (q .entries)) (ik ++ ok) 0) (step-ordered q (step-limited q)))
+
+    pub step-more : Stepping ws ps ik ia ok oa ms begins → r .old ≤ length ms + r .new
+    step-more q = let s = sized q in omega arith
+
+    step-size : (q : Stepping ws ps ik ia ok oa ms begins) → length (markingWords (q .net) (after ws ps ik ia ok oa (q .entries))) ≡ length ms + r .new - r .old
+    step-size q = let s = sized q in let l = ap length (step-words q (step-limited q)) in omega arith
+
+    pub step-long : length buffer < length ms + r .new - r .old → IsStep ws ps ik ia ok oa ms begins buffer (FireRefused overRoom 0) buffer
+    step-long h = record { fired = λ q. rw (step-limited q, step-size q, lt-leb (length ms + r .new - r .old) (length buffer) h) }
+
+    module _ (h : length ms + r .new - r .old ≤ length buffer) where
+      pub step-words-over : mostWords < length ms + r .new - r .old → IsStep ws ps ik ia ok oa ms begins buffer (FireRefused overRoom 0) buffer
+      step-words-over g = record { fired = λ q. rw (step-limited q, step-size q, le-leb (length ms + r .new - r .old) (length buffer) h, lt-leb (length ms + r .new - r .old) mostWords g) }
+
+      pub writable : Stepping ws ps ik ia ok oa ms begins → Writable ws ps ms keys ats olds counts (r .n) buffer
+      writable q =
+          let e = x .same (q .entries) (q .sees) t in
+          let s = sized q in
+          record { fits = q .moves .fits; tabled = x .tabled; ordered = rw e (step-ordered q (step-limited q)); room = rw e (omega arith) }
+
+      pub step-written : {k : ℕ} {rest : List ℕ} → length ms + r .new - r .old ≤ mostWords → IsWritten ws ps ms keys ats olds counts (r .n) buffer k rest → IsStep ws ps ik ia ok oa ms begins buffer (Written k) rest
+      step-written {k} {rest} g y = record {
+        fired = λ q.
+            let e = ap (patched ms 0) (x .same (q .entries) (q .sees) t) ∙ step-words q (step-limited q) in
+            let words : rest ≡ markingWords (q .net) (after ws ps ik ia ok oa (q .entries)) ++ drop (length (markingWords (q .net) (after ws ps ik ia ok oa (q .entries)))) buffer = y .words ∙ ap (λ (l : List ℕ). l ++ drop (length l) buffer) e in
+            let size : k ≡ length (markingWords (q .net) (after ws ps ik ia ok oa (q .entries))) = y .size ∙ ap length e in
+            rw (step-limited q, step-size q, le-leb (length ms + r .new - r .old) (length buffer) h, le-leb (length ms + r .new - r .old) mostWords g) (rw (words, size));
+      }
