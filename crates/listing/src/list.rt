@@ -1,6 +1,5 @@
 // The words of a net on lines of their own, up to the word that check refuses.
 use crate::describe::put_word;
-use crate::lines::put_line;
 use crate::reason::put_reason;
 use crate::state::State;
 use crate::state::after;
@@ -45,30 +44,31 @@ fn put_hex(out: &mut [u8], at: usize, w: u32) -> usize {
     put_half(out, next, w)
 }
 
-// A position, in a column of seven.
+// So many spaces.
+fn put_spaces(out: &mut [u8], at: usize, n: usize) -> usize {
+    let mut next = at;
+    let mut i = 0;
+    while i < n {
+        next = put_byte(out, next, b' ');
+        i += 1;
+    }
+    next
+}
+
+// A position, of at most five digits, in a column of seven.
 fn put_position(out: &mut [u8], i: usize) -> usize {
     let next = put_decimal(out, 0, i);
-    put_line(
-        out,
-        next,
-        b"\n      \n     \n    \n   \n  ",
-        at_most(next, 5),
-    )
+    put_spaces(out, next, 7 - at_most(next, 5))
 }
 
-// How many levels a word of a kind stands in from the NET word.
-fn level(kind: u32) -> usize {
+// How far in from the position a word of a kind stands: a net, its places and transitions, their parts, and the words of expressions.
+fn indent(kind: u32) -> usize {
     match kind {
-        1 => 0,
-        2 | 4 => 1,
-        7..=9 => 3,
-        _ => 2,
+        1 => 2,
+        2 | 4 => 4,
+        7..=9 => 8,
+        _ => 6,
     }
-}
-
-// How far in a word of a kind stands.
-fn put_indent(out: &mut [u8], at: usize, kind: u32) -> usize {
-    put_line(out, at, b"  \n    \n      \n        ", level(kind))
 }
 
 // The refusal and its reason, behind the text so far, and the line's end.
@@ -90,7 +90,7 @@ fn print_word(words: &[u32], i: usize, s: State, width: usize, unfit: bool)
     let k = kind(w);
     let position = put_position(&mut out[..], i);
     let hex = put_hex(&mut out[..], position, w);
-    let inner = put_indent(&mut out[..], hex, k);
+    let inner = put_spaces(&mut out[..], hex, indent(k));
     let told = put_word(&mut out[..], inner, s, words, i, width);
     if unfit {
         let parted = put_bytes(&mut out[..], told, b"; ");
@@ -109,11 +109,11 @@ fn print_refused(words: &[u32], i: usize, s: State, number: u32) {
     if i < words.len() {
         let w = words[i];
         let hex = put_hex(&mut out[..], position, w);
-        let inner = put_bytes(&mut out[..], hex, b"  ");
+        let inner = put_spaces(&mut out[..], hex, 2);
         print_refusal(&mut out[..], inner, number, d, kind(w));
         return;
     }
-    let blank = put_bytes(&mut out[..], position, b"          ");
+    let blank = put_spaces(&mut out[..], position, 10);
     print_refusal(&mut out[..], blank, number, d, 0);
 }
 
