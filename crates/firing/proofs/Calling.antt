@@ -15,13 +15,12 @@ use Rattle.expression.specs.Skip.{forget, skipped}
 use Rattle.net.specs.Skim.{Outline}
 use Rattle.net.specs.Places.{rangesFrom}
 use Rattle.marking.specs.Marked.{bindingRead}
-use Rattle.situations.specs.declared.situation.Situation.{Situation}
-use Rattle.situations.specs.Situation.{Prepared, IsSituation}
+use Rattle.situations.specs.Situation.{Index, outlined, Prepared, IsSituation}
 use Rattle.testing.proofs.Testing.{unbound-refused, bound-read, bound-length, bound-lent}
 use Rattle.steps.specs.Steps.{fireEnd}
-use Rattle.firing.specs.Fire.{FireableAt, Fireable, IsFiredAt, IsFired}
+use Rattle.firing.specs.Fire.{FireableAt, IsFiredAt}
 
-pub fire-refused : (ws : List ℕ) (t : ℕ) (ms bs buffer : List ℕ) {s : Situation} {n p : ℕ} → IsSituation ws t ms s → s .end ≡ Refused n p → fireEnd (FireRefused n p) buffer ≡ fireCall ws t ms bs buffer
+pub fire-refused : (ws : List ℕ) (t : ℕ) (ms bs buffer : List ℕ) {s : Index} {n p : ℕ} → IsSituation ws t ms s → s .end ≡ Refused n p → fireEnd (FireRefused n p) buffer ≡ fireCall ws t ms bs buffer
 unfolding fireCall
 fire-refused ws t ms bs buffer {n = n} {p = p} i e = rw (i .refuses n p e)
 
@@ -29,13 +28,13 @@ placed-arcs : (places : List Place) (v : ℕ) (as′ : List Arc) → Every (Soun
 placed-arcs places v [] e = tt
 placed-arcs places v (a ∷ as′) e = (e .0 .there, placed-arcs places v as′ (e .1))
 
-module _ {ws : List ℕ} {t : ℕ} {ms : List ℕ} {s : Situation} (p : Prepared ws t ms s) (bs : List ℕ) (r : Skipped) (x : skipped r ≡ forget (bindingRead (rangesFrom ws (s .transition .variables) (s .position + 1)) bs)) where
+module _ {ws : List ℕ} {t : ℕ} {ms : List ℕ} {s : Index} (p : Prepared ws t ms s) (bs : List ℕ) (r : Skipped) (x : skipped r ≡ forget (bindingRead (rangesFrom ws (s .transition .variables) (s .position + 1)) bs)) where
   pub fire-unbound : (buffer : List ℕ) {n q : ℕ} → r ≡ Refused n q → fireEnd (FireRefused n q) buffer ≡ fireCall ws t ms bs buffer
   unfolding fireCall
   fire-unbound buffer e = rw (p .same, unbound-refused p bs r x e)
 
   module _ {next : ℕ} (e : r ≡ Next next) where
-    pub fireable : Fireable ws (take (s .places) (s .«places_at»)) (s .transition) ms (s .begins) bs
+    pub fireable : FireableAt ws (take (s .places) (s .«places_at»)) (outlined s .guard) (outlined s .inputs) (outlined s .outputs) ms (s .begins) bs
     fireable = record {
       net = p .net;
       at = s .position;
@@ -56,14 +55,6 @@ module _ {ws : List ℕ} {t : ℕ} {ms : List ℕ} {s : Situation} (p : Prepared
       values = bound-lent p bs r x e;
     }
 
-    pub fire-answers : {f : Fired} {buffer after : List ℕ} → IsFired ws (take (s .places) (s .«places_at»)) (s .transition) ms (s .begins) bs buffer f after → fireEnd f after ≡ fireCall ws t ms bs buffer
+    pub fire-answers : {f : Fired} {buffer after : List ℕ} → IsFiredAt ws (take (s .places) (s .«places_at»)) (outlined s .guard) (outlined s .inputs) (outlined s .outputs) ms (s .begins) bs buffer f after → fireEnd f after ≡ fireCall ws t ms bs buffer
     unfolding fireCall fireable
     fire-answers g = rw (p .same, bound-read p bs r x e .1) (g .fired fireable)
-
--- at other positions that are the same
-module _ {ws ps gs is os ms begins bs gs′ is′ os′ : List ℕ} (e : gs ≡ gs′) (f : is ≡ is′) (g : os ≡ os′) where
-  pub fireable-same : FireableAt ws ps gs′ is′ os′ ms begins bs → FireableAt ws ps gs is os ms begins bs
-  fireable-same q = rw (e, f, g) q
-
-  pub fired-same : {buffer : List ℕ} {r : Fired} {after : List ℕ} → IsFiredAt ws ps gs is os ms begins bs buffer r after → IsFiredAt ws ps gs′ is′ os′ ms begins bs buffer r after
-  fired-same x = rw (← e, ← f, ← g) x

@@ -16,9 +16,7 @@ use Rattle.semantics.specs.Marking.{Entry, countsOf}
 use Rattle.semantics.specs.Run.{fire}
 use Rattle.semantics.specs.Calls.{firedBy}
 use Rattle.evaluation.specs.Evaluate.{lent}
-use Rattle.net.specs.declared.index.TransitionIndex.{TransitionIndex}
 use Rattle.net.specs.Skim.{outline}
-use Rattle.net.specs.Index.{outlined}
 use Rattle.net.specs.Places.{placesAt}
 use Rattle.marking.specs.Marked.{markingRead, Begins}
 use Rattle.arcs.specs.Keys.{IsGathered}
@@ -45,16 +43,9 @@ pub record FireableAt (ws ps gs is os ms begins bs : List ℕ) : Type 0 where
   pub many : length bs ≡ length (transition .variables)
   pub values : lent bs ≡ bound binding
 
--- the same by the index of the transition
-abbrev pub Fireable : List ℕ → List ℕ → TransitionIndex → List ℕ → List ℕ → List ℕ → Type 0
-Fireable ws ps t ms begins bs = FireableAt ws ps (outlined t .guard) (outlined t .inputs) (outlined t .outputs) ms begins bs
-
 -- the answer, and the buffer after it
 pub record IsFiredAt (ws ps gs is os ms begins bs buffer : List ℕ) (r : Fired) (after : List ℕ) : Type 0 where
   pub fired : (q : FireableAt ws ps gs is os ms begins bs) → fireEnd r after ≡ firedBy (q .net) buffer (fire houseTable (q .net) (length buffer) (q .transition) (countsOf (q .entries)) (q .binding))
-
-abbrev pub IsFired : List ℕ → List ℕ → TransitionIndex → List ℕ → List ℕ → List ℕ → List ℕ → Fired → List ℕ → Type 0
-IsFired ws ps t ms begins bs buffer r after = IsFiredAt ws ps (outlined t .guard) (outlined t .inputs) (outlined t .outputs) ms begins bs buffer r after
 
 -- ── A binding that is known to be enabled ──
 

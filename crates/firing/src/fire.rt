@@ -2,19 +2,17 @@
 use arcs::gather::gather;
 use expression::read::Skipped;
 use marking::binding::read_binding;
-use net::index::TransitionIndex;
 use occurrence::enabled::taken;
 use semantics::Fired;
 use situations::situation::prepare;
 use steps::step::fire_keys;
-use word::size::at_most;
 ghost use mathlib.Core.Path.{_≡_};
 ghost use Prim.Native.Nat.{_≤_};
 ghost use lib.ListN.{length};
 ghost use Rattle.semantics.specs.Calls.{fireCall};
 ghost use Rattle.net.specs.Places.{PlacesFit};
 ghost use Rattle.steps.specs.Steps.{fireEnd};
-ghost use Rattle.firing.specs.Fire.{FireableAt, IsFiredAt, EnabledAt, IsFiredEnabled, TakenAt, IsFiredTaken, Fireable, IsFired};
+ghost use Rattle.firing.specs.Fire.{FireableAt, IsFiredAt, EnabledAt, IsFiredEnabled, TakenAt, IsFiredTaken};
 
 // 14, 15 and 16 in that order, or the new marking is written. The first n keys and amounts are what an enabled binding takes.
 fn fire_taken(
@@ -152,40 +150,6 @@ pub fn fire_enabled(
     )
 }
 
-// The same by the index of the transition.
-pub fn fire_binding(
-    net: &[u32],
-    places: &[usize],
-    t: TransitionIndex,
-    marking: &[u32],
-    begins: &[usize],
-    binding: &[u32],
-    next: &mut [u32],
-) -> Fired
-    requires { ⌜ PlacesFit (now net) (now places) ⌝ }
-    requires { ⌜ length (now begins) ≡ 65 ⌝ }
-    requires { ⌜ Fireable (now net) (now places) t (now marking) (now begins) (now binding) ⌝ }
-    ensures { λ r. ⌜ IsFired (now (net .entry)) (now (places .entry)) t (now (marking .entry)) (now (begins .entry)) (now (binding .entry)) (now (next .entry)) r (now (next .exit)) ⌝ }
-{
-    let conjuncts = at_most(8, t.conjuncts);
-    let conjuncts_at = t.conjuncts_at;
-    let inputs = at_most(8, t.inputs);
-    let inputs_at = t.inputs_at;
-    let outputs = at_most(8, t.outputs);
-    let outputs_at = t.outputs_at;
-    fire_arcs(
-        net,
-        places,
-        &conjuncts_at[..conjuncts],
-        &inputs_at[..inputs],
-        &outputs_at[..outputs],
-        marking,
-        begins,
-        binding,
-        next,
-    )
-}
-
 // The first refusal of net, transition, marking and binding, in that order; then as above.
 pub fn fire(
     net: &[u32],
@@ -196,7 +160,23 @@ pub fn fire(
 ) -> Fired
     ensures { λ r. ⌜ fireEnd r (now (next .exit)) ≡ fireCall (now (net .entry)) transition (now (marking .entry)) (now (binding .entry)) (now (next .entry)) ⌝ }
 {
-    let s = prepare(net, transition, marking);
+    let mut places_at = [0usize; 64];
+    let mut ins = [0usize; 8];
+    let mut outs = [0usize; 8];
+    let mut guard = [0usize; 8];
+    let mut plan = [0usize; 8];
+    let mut begins = [0usize; 65];
+    let s = prepare(
+        net,
+        transition,
+        marking,
+        &mut places_at,
+        &mut ins,
+        &mut outs,
+        &mut guard,
+        &mut plan,
+        &mut begins,
+    );
     let end = s.end;
     match end {
         Skipped::Refused(n, p) => Fired::Refused(n, p),
@@ -206,12 +186,15 @@ pub fn fire(
                 Skipped::Refused(m, q) => Fired::Refused(m, q),
                 Skipped::Next(_) => {
                     let places = s.places;
-                    let places_at = s.places_at;
-                    let begins = s.begins;
-                    fire_binding(
+                    let conjuncts = t.conjuncts;
+                    let inputs = t.inputs;
+                    let outputs = t.outputs;
+                    fire_arcs(
                         net,
                         &places_at[..places],
-                        t,
+                        &guard[..conjuncts],
+                        &ins[..inputs],
+                        &outs[..outputs],
                         marking,
                         &begins[..],
                         binding,

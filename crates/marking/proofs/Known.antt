@@ -46,7 +46,7 @@ pub known-start : (ps : List Place) (ws begins : List ℕ) → length begins ≡
 known-start ps ws begins l z = record { last = 0; so-far = so-far-start ps ws begins l z }
 
 -- a marking that is accepted is not refused
-never-refused : {ps : List Place} {ws : List ℕ} {q : ℕ} {begins : List ℕ} {G : Type 0} → Accepted ps ws → IsMarking ps ws (record { end = Refused badMarking q; begins = begins }) → G
+never-refused : {ps : List Place} {ws : List ℕ} {q : ℕ} {begins : List ℕ} {G : Type 0} → Accepted ps ws → IsMarking ps ws (Refused badMarking q) begins → G
 never-refused {q = q} A m = refused-read badMarking q _ (A .end) (m .same ∙ ap forget (A .marked))
 
 module _ {ps : List Place} {ws : List ℕ} (A : Accepted ps ws) {begins : List ℕ} {place at : ℕ} (K : Known ps ws begins place at) where

@@ -336,14 +336,14 @@ answer-refused ps ws at {r} {m} {q} x d = by (readEntry ps ws at) (sym (ap entry
     by (refused n s) i = cc
 
 -- a refusal, whatever was written of the places
-refusal : (ps : List Place) (ws : List ℕ) (q : ℕ) (begins : List ℕ) → markingRead ps ws ≡ refused badMarking q → IsMarking ps ws (record { end = Refused badMarking q; begins = begins })
+refusal : (ps : List Place) (ws : List ℕ) (q : ℕ) (begins : List ℕ) → markingRead ps ws ≡ refused badMarking q → IsMarking ps ws (Refused badMarking q) begins
 refusal ps ws q begins e = record {
   same = sym (ap forget e);
   begins = λ es next f p h. refused-read badMarking q es next (sym e ∙ f);
 }
 
 module _ {ps : List Place} {ws begins : List ℕ} {last place at : ℕ} (a : SoFar ps ws begins last place at) where
-  pub marking-ends : {begins′ : List ℕ} → length ws ≤ at → Begun begins (place + 1) 65 at begins′ → IsMarking ps ws (record { end = Next at; begins = begins′ })
+  pub marking-ends : {begins′ : List ℕ} → length ws ≤ at → Begun begins (place + 1) 65 at begins′ → IsMarking ps ws (Next at) begins′
   marking-ends {begins′} h b = record { same = sym (ap forget (so-far-end a h)); begins = begins-at }
     where
       by : (p : ℕ) → p ≤ 64 → (leb p place ≡ true) ⊎ (leb p place ≡ false) → getD begins′ p 0 ≡ beginOf (a .entries) p
@@ -363,7 +363,7 @@ module _ {ps : List Place} {ws begins : List ℕ} {last place at : ℕ} (a : SoF
           by p k (either (leb p place)) ∙ ap (λ (l : List Entry). beginOf l p) (s .0)
 
   module _ (h : at < length ws) {r : EntryRead} (x : entryRead r ≡ changed entryPlace (readEntry ps ws at)) where
-    pub marking-refused : {m q : ℕ} → r ≡ EntryRefused m q → IsMarking ps ws (record { end = Refused badMarking q; begins = begins })
+    pub marking-refused : {m q : ℕ} → r ≡ EntryRefused m q → IsMarking ps ws (Refused badMarking q) begins
     marking-refused {m} {q} d = refusal ps ws q begins (so-far-refused a h (answer-refused ps ws at x d))
 
     module _ {p next : ℕ} (d : r ≡ EntryAt p next) where
@@ -378,7 +378,7 @@ module _ {ps : List Place} {ws begins : List ℕ} {last place at : ℕ} (a : SoF
         ordered : (e : Entry) (y : readEntry ps ws at ≡ read e next) → e .place ≡ p → u ≡ before (a .after) (key (e .place) (e .colour))
         ordered e y z = o ∙ ap (λ (q : ℕ). risesAfter ws last place at q (next - at - 1)) (sym z) ∙ in-order a h e next y
 
-        pub marking-unordered : not u ≡ true → IsMarking ps ws (record { end = Refused badMarking at; begins = begins })
+        pub marking-unordered : not u ≡ true → IsMarking ps ws (Refused badMarking at) begins
         unfolding markingRead
         marking-unordered i =
             let (e, y, z) = entry-there in

@@ -13,12 +13,12 @@ use Rattle.semantics.specs.Reading.{Reading, read, refused, then, valuesIn, end
 use Rattle.semantics.specs.Net.{Place}
 use Rattle.semantics.specs.Order.{before}
 use Rattle.semantics.specs.Marking.{Entry, key, readEntries}
+use Rattle.expression.specs.declared.read.Skipped.{Skipped}
 use Rattle.expression.specs.declared.read.Skipped.the-variants.{Refused}
 use Rattle.expression.specs.Skip.{forget, skipped}
 use Rattle.colours.specs.Values.{valuesAt}
 use Rattle.marking.specs.declared.entry.EntryRead.{EntryRead}
 use Rattle.marking.specs.declared.entry.EntryRead.the-variants.{Entry as EntryAt, Refused as EntryRefused}
-use Rattle.marking.specs.declared.index.MarkingIndex.{MarkingIndex}
 
 -- ── One entry ──
 
@@ -58,14 +58,15 @@ pub record Begun (l : List ℕ) (from to a : ℕ) (r : List ℕ) : Type 0 where
 abbrev pub risesAfter : List ℕ → ℕ → ℕ → ℕ → ℕ → ℕ → Bool
 risesAfter ws last place at p n = cond (eqb at 0) true (before (key place (valuesAt ws n (last + 1))) (key p (valuesAt ws n (at + 1))))
 
-pub record IsMarking (places : List Place) (ws : List ℕ) (r : MarkingIndex) : Type 0 where
-  pub same : skipped (r .end) ≡ forget (markingRead places ws)
-  pub begins : (es : List Entry) (next : ℕ) → markingRead places ws ≡ read es next → (p : ℕ) → p ≤ 64 → getD (r .begins) p 0 ≡ beginOf es p
+-- where a marking ends or why it cannot be read, and a table of where the entries of each place begin
+pub record IsMarking (places : List Place) (ws : List ℕ) (end : Skipped) (table : List ℕ) : Type 0 where
+  pub same : skipped end ≡ forget (markingRead places ws)
+  pub begins : (es : List Entry) (next : ℕ) → markingRead places ws ≡ read es next → (p : ℕ) → p ≤ 64 → getD table p 0 ≡ beginOf es p
 
 -- "m beyond its buffer, at the buffer's length; marking (in a run its words end at m)"
-pub record IsMarkingIn (places : List Place) (buffer : List ℕ) (m : ℕ) (r : MarkingIndex) : Type 0 where
-  pub beyond : length buffer < m → r .end ≡ Refused badMarking (length buffer)
-  pub within : m ≤ length buffer → IsMarking places (take m buffer) r
+pub record IsMarkingIn (places : List Place) (buffer : List ℕ) (m : ℕ) (end : Skipped) (table : List ℕ) : Type 0 where
+  pub beyond : length buffer < m → end ≡ Refused badMarking (length buffer)
+  pub within : m ≤ length buffer → IsMarking places (take m buffer) end table
 
 -- ── Bindings ──
 

@@ -9,12 +9,6 @@ ghost use lib.ListN.{length};
 ghost use Rattle.net.specs.Places.{placesAt, PlacesFit};
 ghost use Rattle.marking.specs.Marked.{Begun, risesAfter, IsMarking, IsMarkingIn};
 
-// Where a marking ends or why it cannot be read, and where the entries of each place begin; those of the last end where 64 begins.
-pub struct MarkingIndex {
-    pub end: Skipped,
-    pub begins: [usize; 65],
-}
-
 // The places from one number to another begin here.
 pub fn begin_all(begins: &mut [usize], from: usize, to: usize, at: usize)
     requires { ⌜ to ≤ length (now begins) ⌝ }
@@ -44,12 +38,14 @@ fn rises(words: &[u32], last: usize, place: usize, at: usize, p: usize, n: usize
     values_before(words, last + 1, at + 1, n)
 }
 
-// The marking that the words are, on a net whose places stand at these positions.
-pub fn read_marking(net: &[u32], places: &[usize], words: &[u32]) -> MarkingIndex
+// Where the marking ends that the words are, on a net whose places stand at these positions, or why it cannot be read. Where the entries of each
+// place begin is written to a table; those of the last end where 64 begins.
+pub fn read_marking(net: &[u32], places: &[usize], words: &[u32], begins: &mut [usize]) -> Skipped
     requires { ⌜ PlacesFit (now net) (now places) ⌝ }
-    ensures { λ r. ⌜ IsMarking (placesAt (now (net .entry)) (now (places .entry))) (now (words .entry)) r ⌝ }
+    requires { ⌜ length (now begins) ≡ 65 ⌝ }
+    ensures { λ r. ⌜ IsMarking (placesAt (now (net .entry)) (now (places .entry))) (now (words .entry)) r (now (begins .exit)) ⌝ }
 {
-    let mut begins = [0usize; 65];
+    begins[0] = 0;
     let mut last = 0;
     let mut place = 0;
     let mut at = 0;
@@ -57,41 +53,36 @@ pub fn read_marking(net: &[u32], places: &[usize], words: &[u32]) -> MarkingInde
         match read_entry(net, places, words, at) {
             EntryRead::Entry(p, next) => {
                 if !rises(words, last, place, at, p, next - at - 1) {
-                    return MarkingIndex {
-                        end: Skipped::Refused(7, at),
-                        begins: begins,
-                    };
+                    return Skipped::Refused(7, at);
                 }
-                begin_all(&mut begins[..], place + 1, p + 1, at);
+                begin_all(begins, place + 1, p + 1, at);
                 last = at;
                 place = p;
                 at = next;
             }
             EntryRead::Refused(_, q) => {
-                return MarkingIndex {
-                    end: Skipped::Refused(7, q),
-                    begins: begins,
-                };
+                return Skipped::Refused(7, q);
             }
         }
     }
-    begin_all(&mut begins[..], place + 1, 65, at);
-    MarkingIndex {
-        end: Skipped::Next(at),
-        begins: begins,
-    }
+    begin_all(begins, place + 1, 65, at);
+    Skipped::Next(at)
 }
 
 // The marking in the first m words of a buffer; m beyond the buffer is refused at the buffer's length.
-pub fn read_marking_in(net: &[u32], places: &[usize], buffer: &[u32], m: usize) -> MarkingIndex
+pub fn read_marking_in(
+    net: &[u32],
+    places: &[usize],
+    buffer: &[u32],
+    m: usize,
+    begins: &mut [usize],
+) -> Skipped
     requires { ⌜ PlacesFit (now net) (now places) ⌝ }
-    ensures { λ r. ⌜ IsMarkingIn (placesAt (now (net .entry)) (now (places .entry))) (now (buffer .entry)) m r ⌝ }
+    requires { ⌜ length (now begins) ≡ 65 ⌝ }
+    ensures { λ r. ⌜ IsMarkingIn (placesAt (now (net .entry)) (now (places .entry))) (now (buffer .entry)) m r (now (begins .exit)) ⌝ }
 {
     if buffer.len() < m {
-        return MarkingIndex {
-            end: Skipped::Refused(7, buffer.len()),
-            begins: [0usize; 65],
-        };
+        return Skipped::Refused(7, buffer.len());
     }
-    read_marking(net, places, &buffer[..m])
+    read_marking(net, places, &buffer[..m], begins)
 }

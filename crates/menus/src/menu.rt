@@ -91,29 +91,40 @@ pub fn list_bindings(
 pub fn menu(net: &[u32], transition: u32, marking: &[u32], budget: u32, menu: &mut [u32]) -> Listed
     ensures { λ r. ⌜ menuEnd r (now (menu .exit)) ≡ menuCall (now (net .entry)) transition (now (marking .entry)) budget (now (menu .entry)) ⌝ }
 {
-    let s = prepare(net, transition, marking);
+    let mut places_at = [0usize; 64];
+    let mut ins = [0usize; 8];
+    let mut outs = [0usize; 8];
+    let mut guard = [0usize; 8];
+    let mut plan = [0usize; 8];
+    let mut begins = [0usize; 65];
+    let s = prepare(
+        net,
+        transition,
+        marking,
+        &mut places_at,
+        &mut ins,
+        &mut outs,
+        &mut guard,
+        &mut plan,
+        &mut begins,
+    );
     let end = s.end;
     match end {
         Skipped::Refused(n, p) => Listed::Refused(n, p),
         Skipped::Next(_) => {
             let places = s.places;
-            let places_at = s.places_at;
-            let begins = s.begins;
             let t = s.transition;
-            let conjuncts = at_most(8, t.conjuncts);
-            let inputs = at_most(8, t.inputs);
-            let elements = at_most(8, t.elements);
-            let conjuncts_at = t.conjuncts_at;
-            let inputs_at = t.inputs_at;
-            let elements_at = t.elements_at;
+            let conjuncts = t.conjuncts;
+            let inputs = t.inputs;
+            let elements = t.elements;
             list_bindings(
                 net,
                 &places_at[..places],
                 s.position,
                 t.variables,
-                &conjuncts_at[..conjuncts],
-                &inputs_at[..inputs],
-                &elements_at[..elements],
+                &guard[..conjuncts],
+                &ins[..inputs],
+                &plan[..elements],
                 marking,
                 &begins[..],
                 budget,

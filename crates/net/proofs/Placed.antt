@@ -22,9 +22,9 @@ use Rattle.word.specs.Fields.{rangeWord}
 use Rattle.expression.specs.declared.read.Skipped.{Skipped}
 use Rattle.expression.specs.declared.read.Skipped.the-variants.{Next, Refused}
 use Rattle.net.specs.declared.index.NetIndex.{NetIndex}
-use Rattle.net.specs.declared.index.TransitionIndex.{TransitionIndex}
+use Rattle.net.specs.declared.index.Parts.{Parts}
 use Rattle.net.specs.Skim.{changed, outline, skimTransition, width, NetOutline, netOutline, skimNet}
-use Rattle.net.specs.Index.{upTo, outlined, transitionRead, netRead}
+use Rattle.net.specs.Index.{upTo, outlined, AreParts, netRead}
 use Rattle.net.specs.Places.{rangesFrom, widthAt, placeAt, placesAt, PlaceFits, PlacesFit}
 use Rattle.net.proofs.Skimming.{skim-transition, pairOf, widths-of, skim-net}
 use Rattle.net.proofs.Nets.{seconds}
@@ -193,10 +193,10 @@ module _ (ws : List ℕ) (i : NetIndex) (x : netRead i ≡ skimNet ws 0) (full :
   pub index-fits : PlacesFit ws (take (i .places) (i .«places_at»))
   index-fits = rw index-positions (net-fits ws 0 net next e)
 
--- what the index of a transition has
-pub index-outline : (ws : List ℕ) (places : List Place) (at : ℕ) (i : TransitionIndex) → transitionRead i ≡ skimTransition ws (map width places) at → (t : Transition) (next : ℕ) → readTransition ws places at ≡ read t next → (outlined i ≡ outline t) × (i .end ≡ Next next)
-index-outline ws places at i x t next e = by (i .end) (x ∙ sym (skim-transition ws places at) ∙ ap (changed outline) e)
+-- where the parts of a transition begin that was read
+pub parts-outline : (ws : List ℕ) (places : List Place) (at : ℕ) (ins outs guard plan : List ℕ) {r : Parts} → AreParts ws (map width places) at ins outs guard plan r → (t : Transition) (next : ℕ) → readTransition ws places at ≡ read t next → outlined r ins outs guard plan ≡ outline t
+parts-outline ws places at ins outs guard plan {r} x t next e = by (r .end) (x .same ∙ sym (skim-transition ws places at) ∙ ap (changed outline) e)
   where
-    by : (end : Skipped) → upTo end (outlined i) ≡ read (outline t) next → (outlined i ≡ outline t) × (end ≡ Next next)
-    by (Next n) h = let k : n ≡ next = cc in (cc, ap Next k)
+    by : (end : Skipped) → upTo end (outlined r ins outs guard plan) ≡ read (outline t) next → outlined r ins outs guard plan ≡ outline t
+    by (Next n) h = cc
     by (Refused n p) h = false-true (cc)

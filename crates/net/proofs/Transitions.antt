@@ -87,7 +87,7 @@ module _ (ws widths : List ℕ) (at : ℕ) {t : Taken} (w : IsTaken ws at 4 t) w
   transition-refused o e f d = upTo-refused o (rw (word-refused w e)) (d ∙ f ∙ ap refusalOf e)
 
   pub parts-refused : (ins outs guard plan : List ℕ) {m s : ℕ} {f : Skipped} {r : Parts} → t ≡ TakeRefused m s → f ≡ refusalOf t → r ≡ noParts f → AreParts ws widths at ins outs guard plan r
-  parts-refused ins outs guard plan e f d = rw d (record { same = transition-refused _ e f refl; few-variables = omega arith; few-inputs = omega arith; few-conjuncts = omega arith; few-elements = omega arith })
+  parts-refused ins outs guard plan e f d = rw d (record { same = transition-refused _ e f refl; few-variables = omega arith; few-inputs = omega arith; few-outputs = omega arith; few-conjuncts = omega arith; few-elements = omega arith })
 
   module _ {p : ℕ} (e : t ≡ Word p) where
     ranges-left : skimTransition ws widths at ≡ rangesLeft ws widths p (at + 1)

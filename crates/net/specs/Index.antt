@@ -9,7 +9,6 @@ use Rattle.kinds.specs.declared.take.Taken.{Taken}
 use Rattle.kinds.specs.declared.take.Taken.the-variants.{Word, Refused as TakeRefused}
 use Rattle.expression.specs.declared.read.Skipped.{Skipped}
 use Rattle.expression.specs.declared.read.Skipped.the-variants.{Next, Refused}
-use Rattle.net.specs.declared.index.TransitionIndex.{TransitionIndex}
 use Rattle.net.specs.declared.index.Parts.{Parts}
 use Rattle.net.specs.declared.index.PlaceIndex.{PlaceIndex}
 use Rattle.net.specs.declared.index.NetIndex.{NetIndex}
@@ -27,27 +26,26 @@ abbrev pub upTo : {A : Type 0} → Skipped → A → Reading A
 upTo (Next next) a = read a next
 upTo (Refused n p) a = refused n p
 
-abbrev pub outlined : TransitionIndex → Outline
-outlined r =
+-- where the parts of a transition begin: at the fronts of four tables
+abbrev pub outlined : Parts → List ℕ → List ℕ → List ℕ → List ℕ → Outline
+outlined r ins outs guard plan =
     record {
       variables = r .variables;
-      inputs = take (r .inputs) (r .«inputs_at»);
-      outputs = take (r .outputs) (r .«outputs_at»);
-      guard = take (r .conjuncts) (r .«conjuncts_at»);
-      plan = take (r .elements) (r .«elements_at»);
+      inputs = take (r .inputs) ins;
+      outputs = take (r .outputs) outs;
+      guard = take (r .conjuncts) guard;
+      plan = take (r .elements) plan;
     }
-
-abbrev pub transitionRead : TransitionIndex → Reading Outline
-transitionRead r = upTo (r .end) (outlined r)
 
 abbrev pub noParts : Skipped → Parts
 noParts end = record { end = end; variables = 0; inputs = 0; outputs = 0; conjuncts = 0; elements = 0 }
 
 -- the parts of the transition at a position begin where the fronts of four tables say, at most eight of each
 pub record AreParts (ws widths : List ℕ) (at : ℕ) (ins outs guard plan : List ℕ) (r : Parts) : Type 0 where
-  pub same : upTo (r .end) (record { variables = r .variables; inputs = take (r .inputs) ins; outputs = take (r .outputs) outs; guard = take (r .conjuncts) guard; plan = take (r .elements) plan }) ≡ skimTransition ws widths at
+  pub same : upTo (r .end) (outlined r ins outs guard plan) ≡ skimTransition ws widths at
   pub few-variables : r .variables ≤ 8
   pub few-inputs : r .inputs ≤ 8
+  pub few-outputs : r .outputs ≤ 8
   pub few-conjuncts : r .conjuncts ≤ 8
   pub few-elements : r .elements ≤ 8
 

@@ -8,42 +8,8 @@ ghost use mathlib.Core.Path.{_≡_};
 ghost use Prim.Native.Nat.{_≤_};
 ghost use mathlib.Core.List.{zip};
 ghost use lib.ListN.{length, take};
-ghost use Rattle.net.specs.Skim.{skimPlace, skimPlaces, skimTransition};
-ghost use Rattle.net.specs.Index.{refusalOf, upTo, noParts, AreParts, transitionRead, placeRead};
-
-// A transition: where it ends or why it cannot be read, how many of each part it has, and where they begin. Its ranges begin right after
-// its word.
-pub struct TransitionIndex {
-    pub end: Skipped,
-    pub variables: usize,
-    pub inputs: usize,
-    pub outputs: usize,
-    pub conjuncts: usize,
-    pub elements: usize,
-    pub inputs_at: [usize; 8],
-    pub outputs_at: [usize; 8],
-    pub conjuncts_at: [usize; 8],
-    pub elements_at: [usize; 8],
-}
-
-// A transition of which only the end is known.
-pub fn ending(end: Skipped) -> TransitionIndex
-    ensures { λ r. ⌜ r .end ≡ end ⌝ }
-{
-    let none = [0usize; 8];
-    TransitionIndex {
-        end: end,
-        variables: 0,
-        inputs: 0,
-        outputs: 0,
-        conjuncts: 0,
-        elements: 0,
-        inputs_at: none,
-        outputs_at: none,
-        conjuncts_at: none,
-        elements_at: none,
-    }
-}
+ghost use Rattle.net.specs.Skim.{skimPlace, skimPlaces};
+ghost use Rattle.net.specs.Index.{refusalOf, upTo, noParts, AreParts, placeRead};
 
 // A transition whose parts stand in tables: where it ends or why it cannot be read, and how many of each part it has.
 pub struct Parts {
@@ -104,38 +70,6 @@ pub fn read_parts(
         outputs: outputs,
         conjuncts: conjuncts,
         elements: elements,
-    }
-}
-
-// The transition at a position; `widths` has the number of components of each place.
-pub fn read_transition(words: &[u32], widths: &[usize], at: usize) -> TransitionIndex
-    ensures { λ r. ⌜ transitionRead r ≡ skimTransition (now (words .entry)) (now (widths .entry)) at ⌝ }
-{
-    let mut ins = [0usize; 8];
-    let mut outs = [0usize; 8];
-    let mut guard = [0usize; 8];
-    let mut plan = [0usize; 8];
-    let t = read_parts(
-        words,
-        widths,
-        &mut ins,
-        &mut outs,
-        &mut guard,
-        &mut plan,
-        at,
-    );
-    let end = t.end;
-    TransitionIndex {
-        end: end,
-        variables: t.variables,
-        inputs: t.inputs,
-        outputs: t.outputs,
-        conjuncts: t.conjuncts,
-        elements: t.elements,
-        inputs_at: ins,
-        outputs_at: outs,
-        conjuncts_at: guard,
-        elements_at: plan,
     }
 }
 

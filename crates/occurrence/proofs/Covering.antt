@@ -140,7 +140,3 @@ module _ (ws ps gs is ms begins bs : List ℕ) where
 
         pub taken-covered : not u ≡ false → IsTaken ws ps gs is ms begins bs r keys amounts
         taken-covered k = record { enabled = rw (not-false (r .some) f) (rw (not-false u k) at enabled-by); gathered = λ t. x }
-
--- at other positions that are the same
-pub enabled-same : {ws ps gs is ms begins bs gs′ is′ : List ℕ} {r : Bool} → gs ≡ gs′ → is ≡ is′ → IsEnabledAt ws ps gs is ms begins bs r → IsEnabledAt ws ps gs′ is′ ms begins bs r
-enabled-same e f t = rw (← e, ← f) t

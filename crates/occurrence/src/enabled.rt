@@ -3,12 +3,9 @@ use crate::cover::covers;
 use arcs::gather::Gathered;
 use arcs::gather::gather;
 use guards::guard::guard_holds;
-use net::index::TransitionIndex;
-use word::size::at_most;
 ghost use mathlib.Core.Path.{_≡_};
 ghost use Prim.Native.Nat.{_≤_};
 ghost use lib.ListN.{length};
-ghost use Rattle.net.specs.Index.{outlined};
 ghost use Rattle.net.specs.Places.{PlacesFit};
 ghost use Rattle.occurrence.specs.Answers.{IsTaken, IsEnabledAt};
 
@@ -75,32 +72,4 @@ pub fn is_enabled(
         &mut amounts[..],
     );
     all.some
-}
-
-// The same of the conjuncts and input arcs of a transition.
-pub fn occurs(
-    net: &[u32],
-    places: &[usize],
-    t: TransitionIndex,
-    marking: &[u32],
-    begins: &[usize],
-    binding: &[u32],
-) -> bool
-    requires { ⌜ PlacesFit (now net) (now places) ⌝ }
-    requires { ⌜ length (now begins) ≡ 65 ⌝ }
-    ensures { λ r. ⌜ IsEnabledAt (now (net .entry)) (now (places .entry)) (outlined t .guard) (outlined t .inputs) (now (marking .entry)) (now (begins .entry)) (now (binding .entry)) r ⌝ }
-{
-    let conjuncts = at_most(8, t.conjuncts);
-    let conjuncts_at = t.conjuncts_at;
-    let inputs = at_most(8, t.inputs);
-    let inputs_at = t.inputs_at;
-    is_enabled(
-        net,
-        places,
-        &conjuncts_at[..conjuncts],
-        &inputs_at[..inputs],
-        marking,
-        begins,
-        binding,
-    )
 }

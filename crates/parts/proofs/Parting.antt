@@ -22,11 +22,10 @@ use Rattle.semantics.proofs.Readers.{Gives, gives, given, then-gives, as-read}
 use Rattle.semantics.proofs.Spans.{several-length}
 use Rattle.semantics.proofs.Accepted.{transition-sound, accepted-read, accepted-sound}
 use Rattle.net.specs.declared.index.Parts.{Parts}
-use Rattle.net.specs.declared.index.TransitionIndex.{TransitionIndex}
 use Rattle.net.specs.Skim.{Outline, outline, width}
-use Rattle.net.specs.Index.{AreParts}
+use Rattle.net.specs.Index.{outlined, AreParts}
 use Rattle.net.proofs.Located.{At, net-transitions}
-use Rattle.net.proofs.Placed.{word-here, index-outline}
+use Rattle.net.proofs.Placed.{word-here, parts-outline}
 use Rattle.patch.specs.Patch.{written}
 use Rattle.patch.proofs.Writing.{written-written}
 use Rattle.search.specs.Scene.{netOf}
@@ -150,11 +149,8 @@ module _ (d : List ℕ) (at : ℕ) (a b c e : List ℕ) (la : length a ≡ 8) (l
         n : Counted (getD ws position 0) t
         n = head-counts ws places position t next x
 
-        index : TransitionIndex
-        index = record { end = r .end; variables = r .variables; inputs = r .inputs; outputs = r .outputs; conjuncts = r .conjuncts; elements = r .elements; «inputs_at» = a; «outputs_at» = b; «conjuncts_at» = c; «elements_at» = e }
-
-        same : record { variables = r .variables; inputs = take (r .inputs) a; outputs = take (r .outputs) b; guard = take (r .conjuncts) c; plan = take (r .elements) e } ≡ outline t
-        same = index-outline ws places position index (rw w at (A .same)) t next x .0
+        same : outlined r a b c e ≡ outline t
+        same = parts-outline ws places position a b c e (rw w at A) t next x
 
     pub kept-parts : {after : List ℕ} → after ≡ written d at (a ++ (b ++ (c ++ e))) → KeepsParts ws widths position d at after
     kept-parts {after} z = record {

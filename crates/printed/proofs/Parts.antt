@@ -25,8 +25,7 @@ use Rattle.semantics.proofs.Accepted.{accepted-sound, front-inside}
 use Rattle.expression.specs.declared.read.Skipped.the-variants.{Next, Refused}
 use Rattle.net.specs.Skim.{Outline}
 use Rattle.accept.specs.Front.{splitInto}
-use Rattle.situations.specs.declared.situation.Situation.{Situation as Index}
-use Rattle.situations.specs.Situation.{IsSituation}
+use Rattle.situations.specs.Situation.{Index, IsSituation}
 use Rattle.word.proofs.Copying.{words-length}
 use Rattle.text.specs.Put.{Put}
 use Rattle.text.proofs.Putting.{put-none}

@@ -51,7 +51,23 @@ fn net_part(out: &mut [u8], i: usize, net: &[u32], marking: &[u32]) -> Part
             more: false,
         };
     }
-    let s = prepare(net, i as u32, marking);
+    let mut places_at = [0usize; 64];
+    let mut ins = [0usize; 8];
+    let mut outs = [0usize; 8];
+    let mut guard = [0usize; 8];
+    let mut plan = [0usize; 8];
+    let mut begins = [0usize; 65];
+    let s = prepare(
+        net,
+        i as u32,
+        marking,
+        &mut places_at,
+        &mut ins,
+        &mut outs,
+        &mut guard,
+        &mut plan,
+        &mut begins,
+    );
     let end = s.end;
     match end {
         Skipped::Refused(n, p) => refusal_part(out, i, n as usize, p),

@@ -15,26 +15,23 @@ use Rattle.semantics.specs.Plan.{acceptNet}
 use Rattle.semantics.specs.Marking.{Entry, readMarking}
 use Rattle.semantics.specs.Calls.{Situation as Situated, situation}
 use Rattle.semantics.proofs.Members.{length-at, past-elem, every-elem, map-elem}
+use Rattle.expression.specs.declared.read.Skipped.{Skipped}
 use Rattle.expression.specs.declared.read.Skipped.the-variants.{Next, Refused}
 use Rattle.expression.specs.Skip.{forget, skipped}
 use Rattle.expression.proofs.Laws.{passed-read, passed-refused, next-refused}
 use Rattle.net.specs.declared.index.NetIndex.{NetIndex}
-use Rattle.net.specs.declared.index.TransitionIndex.{TransitionIndex}
-use Rattle.net.specs.Skim.{changed, netOutline, width, skimTransition}
-use Rattle.net.specs.Index.{netRead, transitionRead}
+use Rattle.net.specs.declared.index.Parts.{Parts}
+use Rattle.net.specs.Skim.{changed, netOutline, width}
+use Rattle.net.specs.Index.{netRead, AreParts}
 use Rattle.net.specs.Places.{placesAt, PlacesFit}
 use Rattle.net.proofs.Located.{At, net-transitions}
-use Rattle.net.proofs.Placed.{index-outline}
+use Rattle.net.proofs.Placed.{parts-outline}
 use Rattle.accept.specs.declared.accepted.Extent.{Extent}
 use Rattle.accept.specs.Front.{IsExtent}
 use Rattle.accept.proofs.Checking.{to-all, index-refused}
 use Rattle.accept.proofs.Tables as tables
-use Rattle.marking.specs.declared.index.MarkingIndex.{MarkingIndex}
 use Rattle.marking.specs.Marked.{markingRead, IsMarking}
-use Rattle.situations.specs.declared.situation.Situation.{Situation}
-use Rattle.situations.specs.Situation.{Prepared, IsSituation}
-
--- ── By the answers of the code ──
+use Rattle.situations.specs.Situation.{Index, Prepared, IsSituation}
 
 module _ (ws ms : List ℕ) (t : ℕ) (r : Extent) {places widths transitions : List ℕ} (told-net : IsExtent ws (length ws) places widths transitions r) where
   -- the index of the net, whose tables are lent
@@ -44,7 +41,7 @@ module _ (ws ms : List ℕ) (t : ℕ) (r : Extent) {places widths transitions : 
   x : netRead i ≡ changed netOutline (acceptNet ws)
   x = told-net .same ∙ ap (changed netOutline) (to-all ws)
 
-  pub net-unaccepted : {n p : ℕ} (s : Situation) → i .end ≡ Refused n p → s .end ≡ i .end → IsSituation ws t ms s
+  pub net-unaccepted : {n p : ℕ} (s : Index) → i .end ≡ Refused n p → s .end ≡ i .end → IsSituation ws t ms s
   unfolding situation
   net-unaccepted {n} {p} s e d = record {
     refuses = λ m q g. let a : Refused m q ≡ Refused n p = sym g ∙ d ∙ e in let b : _≡_ {A = Reading Situated} (refused n p) (refused m q) = cc in rw (index-refused (acceptNet ws) i x e) b;
@@ -70,14 +67,14 @@ module _ (ws ms : List ℕ) (t : ℕ) (r : Extent) {places widths transitions : 
     pub places-fit : {p : ℕ} → p ≡ min (i .places) 64 → PlacesFit ws (take p (i .«places_at»))
     places-fit few = tables.places-fit ws i x e full wide few
 
-    pub transition-unknown : (s : Situation) → q ≤ t → s .end ≡ Refused noTransition 0 → IsSituation ws t ms s
+    pub transition-unknown : (s : Index) → q ≤ t → s .end ≡ Refused noTransition 0 → IsSituation ws t ms s
     unfolding situation
     transition-unknown s h d = record {
       refuses = λ m p g. let a : Refused m p ≡ Refused noTransition 0 = sym g ∙ d in let b : _≡_ {A = Reading Situated} (refused noTransition 0) (refused m p) = cc in rw (is-accepted, past-elem (net .transitions) t (omega (arith, many))) b;
       prepares = λ n g. let a : Next n ≡ Refused noTransition 0 = sym g ∙ d in next-refused a;
     }
 
-    module _ (h : t < q) {p : ℕ} (few : p ≡ min (i .places) 64) (j : TransitionIndex) (y : transitionRead j ≡ skimTransition ws (take p (i .widths)) (getD (i .«transitions_at») t 0)) (m : MarkingIndex) (z : IsMarking (placesAt ws (take p (i .«places_at»))) ms m) where
+    module _ (h : t < q) {p : ℕ} (few : p ≡ min (i .places) 64) {j : Parts} {ins outs guard plan : List ℕ} (y : AreParts ws (take p (i .widths)) (getD (i .«transitions_at») t 0) ins outs guard plan j) {end : Skipped} {begins : List ℕ} (z : IsMarking (placesAt ws (take p (i .«places_at»))) ms end begins) where
       known : (tr : Transition) × (getElem? (net .transitions) t ≡ some tr)
       known = length-at (net .transitions) t (omega (arith, many))
 
@@ -96,18 +93,21 @@ module _ (ws ms : List ℕ) (t : ℕ) (r : Extent) {places widths transitions : 
       widths-same : take p (i .widths) ≡ map width (net .places)
       widths-same = tables.widths-are ws i x e full wide few
 
-      pub told : (s : Situation) → s .end ≡ m .end → s .places ≡ p → s .«places_at» ≡ i .«places_at» → s .position ≡ getD (i .«transitions_at») t 0 → s .transition ≡ j → s .begins ≡ m .begins → IsSituation ws t ms s
+      abbrev s : Index
+      s = record { end = end; places = p; «places_at» = places; position = getD (i .«transitions_at») t 0; transition = j; ins = ins; outs = outs; guard = guard; plan = plan; begins = begins }
+
+      pub told : IsSituation ws t ms s
       unfolding situation readMarking markingRead
-      told s a b c d f g = record { refuses = stops; prepares = goes }
+      told = record { refuses = stops; prepares = goes }
         where
-          marking : skipped (m .end) ≡ forget (markingRead (net .places) ms)
+          marking : skipped end ≡ forget (markingRead (net .places) ms)
           marking = rw placed (z .same)
 
-          stops : (n o : ℕ) → s .end ≡ Refused n o → situation ws t ms ≡ refused n o
-          stops n o k = rw (is-accepted, known .1, passed-refused (markingRead (net .places) ms) (m .end) marking (sym a ∙ k))
+          stops : (n o : ℕ) → end ≡ Refused n o → situation ws t ms ≡ refused n o
+          stops n o k = rw (is-accepted, known .1, passed-refused (markingRead (net .places) ms) end marking k)
 
-          goes : (n : ℕ) → s .end ≡ Next n → Prepared ws t ms s
-          goes n k = by (passed-read (markingRead (net .places) ms) (m .end) marking (sym a ∙ k))
+          goes : (n : ℕ) → end ≡ Next n → Prepared ws t ms s
+          goes n k = by (passed-read (markingRead (net .places) ms) end marking k)
             where
               by : (es : List Entry) × (markingRead (net .places) ms ≡ read es n) → Prepared ws t ms s
               by (es, r) = record {
@@ -119,12 +119,16 @@ module _ (ws ms : List ℕ) (t : ℕ) (r : Extent) {places widths transitions : 
                 end = n;
                 accepted = is-accepted;
                 named = known .1;
-                few = omega (arith, few, b);
-                placed = rw (b, c) placed;
-                fits = rw (b, c) (places-fit few);
-                there = rw d reads-transition;
-                outlines = rw f (index-outline ws (net .places) (getD (i .«transitions_at») t 0) j (rw widths-same at y) (known .0) (stands .next) reads-transition .0);
+                few = omega (arith, few);
+                placed = placed;
+                fits = places-fit few;
+                there = reads-transition;
+                outlines = parts-outline ws (net .places) (getD (i .«transitions_at») t 0) ins outs guard plan (rw widths-same at y) (known .0) (stands .next) reads-transition;
+                few-inputs = y .few-inputs;
+                few-outputs = y .few-outputs;
+                few-conjuncts = y .few-conjuncts;
+                few-elements = y .few-elements;
                 marked = r;
-                begins = record { at = λ o l. rw g (z .begins es n (rw placed at r) o l) };
+                begins = record { at = λ o l. z .begins es n (rw placed at r) o l };
                 same = rw (is-accepted, known .1, r);
               }

@@ -1,22 +1,21 @@
-// What the calls on a transition and a marking start from: refusals 1 to 7, then the index of all three.
+// What the calls on a transition and a marking start from: refusals 1 to 7, then the index of all three. How many structures there are is
+// answered; where they begin stands in tables that the caller lends, so that none is copied. Rests on accept, net::index and marking::index.
 use accept::accepted::accept_into;
 use expression::read::Skipped;
 use marking::index::read_marking;
-use net::index::TransitionIndex;
-use net::index::ending;
-use net::index::read_transition;
+use net::index::Parts;
+use net::index::read_parts;
 use word::size::at_most;
 ghost use mathlib.Core.Path.{_≡_};
-ghost use Rattle.situations.specs.Situation.{IsSituation};
+ghost use lib.ListN.{length};
+ghost use Rattle.situations.specs.Situation.{IsSituation, index};
 
-// The places of an accepted net, one of its transitions and its position, and where the entries of a marking's places begin; or a refusal.
+// How many places an accepted net has, the position of one of its transitions and how many of each part it has; or a refusal.
 pub struct Situation {
     pub end: Skipped,
     pub places: usize,
-    pub places_at: [usize; 64],
     pub position: usize,
-    pub transition: TransitionIndex,
-    pub begins: [usize; 65],
+    pub transition: Parts,
 }
 
 // No situation, but a refusal.
@@ -26,27 +25,38 @@ fn refused_situation(end: Skipped) -> Situation
     Situation {
         end: end,
         places: 0,
-        places_at: [0usize; 64],
         position: 0,
-        transition: ending(end),
-        begins: [0usize; 65],
+        transition: Parts {
+            end: end,
+            variables: 0,
+            inputs: 0,
+            outputs: 0,
+            conjuncts: 0,
+            elements: 0,
+        },
     }
 }
 
-// Net, then transition, then marking.
-pub fn prepare(net: &[u32], transition: u32, marking: &[u32]) -> Situation
-    ensures { λ r. ⌜ IsSituation (now (net .entry)) transition (now (marking .entry)) r ⌝ }
+// Net, then transition, then marking. Where the net's places begin, the transition's arcs, conjuncts and elements, and the entries of each place in
+// the marking, is written to six tables.
+pub fn prepare(
+    net: &[u32],
+    transition: u32,
+    marking: &[u32],
+    places_at: &mut [usize],
+    ins: &mut [usize],
+    outs: &mut [usize],
+    guard: &mut [usize],
+    plan: &mut [usize],
+    begins: &mut [usize],
+) -> Situation
+    requires { ⌜ (length (now «places_at») ≡ 64) × (length (now begins) ≡ 65) ⌝ }
+    requires { ⌜ (length (now ins) ≡ 8) × (length (now outs) ≡ 8) × (length (now guard) ≡ 8) × (length (now plan) ≡ 8) ⌝ }
+    ensures { λ r. ⌜ IsSituation (now (net .entry)) transition (now (marking .entry)) (index r (now («places_at» .exit)) (now (ins .exit)) (now (outs .exit)) (now (guard .exit)) (now (plan .exit)) (now (begins .exit))) ⌝ }
 {
-    let mut places_at = [0usize; 64];
     let mut widths = [0usize; 64];
     let mut transitions_at = [0usize; 64];
-    let extent = accept_into(
-        net,
-        net.len(),
-        &mut places_at,
-        &mut widths,
-        &mut transitions_at,
-    );
+    let extent = accept_into(net, net.len(), places_at, &mut widths, &mut transitions_at);
     let end = extent.end;
     let Skipped::Next(_) = end else {
         return refused_situation(end);
@@ -57,16 +67,12 @@ pub fn prepare(net: &[u32], transition: u32, marking: &[u32]) -> Situation
     }
     let position = transitions_at[number];
     let places = at_most(64, extent.places);
-    let t = read_transition(net, &widths[..places], position);
-    let m = read_marking(net, &places_at[..places], marking);
-    let m_end = m.end;
-    let begins = m.begins;
+    let t = read_parts(net, &widths[..places], ins, outs, guard, plan, position);
+    let marking_end = read_marking(net, &places_at[..places], marking, begins);
     Situation {
-        end: m_end,
+        end: marking_end,
         places: places,
-        places_at: places_at,
         position: position,
         transition: t,
-        begins: begins,
     }
 }

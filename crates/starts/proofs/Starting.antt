@@ -16,6 +16,7 @@ use Rattle.semantics.specs.Plan.{acceptNet}
 use Rattle.semantics.specs.Marking.{Entry, firstUnknown, firstMalformed, readMarking}
 use Rattle.semantics.specs.Calls.{Start, markingIn, start}
 use Rattle.semantics.proofs.Tests.{false-true, either}
+use Rattle.expression.specs.declared.read.Skipped.{Skipped}
 use Rattle.expression.specs.declared.read.Skipped.the-variants.{Next, Refused}
 use Rattle.expression.specs.Skip.{forget, skipped}
 use Rattle.expression.proofs.Laws.{passed-read, passed-refused, next-refused}
@@ -25,7 +26,6 @@ use Rattle.net.specs.Index.{netRead}
 use Rattle.net.specs.Places.{placesAt, PlacesFit}
 use Rattle.accept.proofs.Checking.{index-refused}
 use Rattle.accept.proofs.Tables as tables
-use Rattle.marking.specs.declared.index.MarkingIndex.{MarkingIndex}
 use Rattle.marking.specs.declared.pick.FirstPick.{FirstPick}
 use Rattle.marking.specs.declared.pick.FirstPick.the-variants.{At, Nothing}
 use Rattle.marking.specs.Marked.{markingRead, IsMarkingIn}
@@ -62,28 +62,28 @@ module _ (ws buffer : List ℕ) (m : ℕ) (picks : List ℕ) (i : NetIndex) (x :
       unfolding start
       start-unknown {p} d g = let u : firstUnknown (length (net .transitions)) picks ≡ some p = sym unknown ∙ ap firstPick d in told-refused g (rw (is-accepted, u))
 
-      module _ (d : f ≡ Nothing) {p : ℕ} (few : p ≡ min (i .places) 64) (k : MarkingIndex) (z : IsMarkingIn (placesAt ws (take p (i .«places_at»))) buffer m k) where
+      module _ (d : f ≡ Nothing) {p : ℕ} (few : p ≡ min (i .places) 64) (k : Skipped) {table : List ℕ} (z : IsMarkingIn (placesAt ws (take p (i .«places_at»))) buffer m k table) where
         all-known : firstUnknown (length (net .transitions)) picks ≡ none
         all-known = sym unknown ∙ ap firstPick d
 
         placed : net .places ≡ placesAt ws (take p (i .«places_at»))
         placed = tables.placed ws i x e full wide few
 
-        marking-told : skipped (k .end) ≡ forget (markingIn net buffer m)
+        marking-told : skipped k ≡ forget (markingIn net buffer m)
         unfolding markingIn readMarking markingRead
         marking-told = by (either (leb m (length buffer)))
           where
-            by : (leb m (length buffer) ≡ true) ⊎ (leb m (length buffer) ≡ false) → skipped (k .end) ≡ forget (markingIn net buffer m)
+            by : (leb m (length buffer) ≡ true) ⊎ (leb m (length buffer) ≡ false) → skipped k ≡ forget (markingIn net buffer m)
             by (inl h) = rw h (z .within (leb-true m (length buffer) h) .same ∙ ap (λ ps. forget (markingRead ps (take m buffer))) (sym placed))
             by (inr h) = rw h (ap skipped (z .beyond (leb-false m (length buffer) h)))
 
-        pub start-unmarked : {n s : ℕ} {r : NetIndex} → k .end ≡ Refused n s → r .end ≡ Refused n s → IsStart ws buffer m picks r
+        pub start-unmarked : {n s : ℕ} {r : NetIndex} → k ≡ Refused n s → r .end ≡ Refused n s → IsStart ws buffer m picks r
         unfolding start
-        start-unmarked e′ g = told-refused g (rw (is-accepted, all-known, passed-refused (markingIn net buffer m) (k .end) marking-told e′))
+        start-unmarked e′ g = told-refused g (rw (is-accepted, all-known, passed-refused (markingIn net buffer m) k marking-told e′))
 
-        module _ {end : ℕ} (e′ : k .end ≡ Next end) (h : FirstPick) (w : firstPick h ≡ firstMalformed picks) where
+        module _ {end : ℕ} (e′ : k ≡ Next end) (h : FirstPick) (w : firstPick h ≡ firstMalformed picks) where
           marked-in : (es : List Entry) × (markingIn net buffer m ≡ read es end)
-          marked-in = passed-read (markingIn net buffer m) (k .end) marking-told e′
+          marked-in = passed-read (markingIn net buffer m) k marking-told e′
 
           pub start-malformed : {s : ℕ} {r : NetIndex} → h ≡ At s → r .end ≡ Refused badPick s → IsStart ws buffer m picks r
           unfolding start

@@ -24,9 +24,8 @@ pub fn begin(net: &[u32], buffer: &[u32], m: usize, picks: &[u32]) -> NetIndex
         FirstPick::Nothing => {
             let places = at_most(64, index.places);
             let places_at = index.places_at;
-            let marking = read_marking_in(net, &places_at[..places], buffer, m);
-            let marking_end = marking.end;
-            match marking_end {
+            let mut begins = [0usize; 65];
+            match read_marking_in(net, &places_at[..places], buffer, m, &mut begins) {
                 Skipped::Refused(n, q) => refused_index(n, q),
                 Skipped::Next(_) => match first_malformed(picks) {
                     FirstPick::At(s) => refused_index(9, s),

@@ -18,22 +18,20 @@ use Rattle.expression.specs.Skip.{forget, skipped}
 use Rattle.expression.proofs.Laws.{passed-read, passed-refused}
 use Rattle.evaluation.specs.Evaluate.{lent}
 use Rattle.net.specs.Skim.{Outline}
-use Rattle.net.specs.Index.{outlined}
 use Rattle.net.specs.Places.{rangesFrom}
 use Rattle.net.proofs.Placed.{variables-placed, variables-fit}
 use Rattle.marking.specs.Marked.{bindingRead}
 use Rattle.semantics.proofs.Partial.{range-length}
 use Rattle.marking.proofs.Bound.{IsBinding, binding-read, ranged-small}
-use Rattle.situations.specs.declared.situation.Situation.{Situation}
 use Rattle.occurrence.specs.Answers.{IsEnabledAt}
-use Rattle.situations.specs.Situation.{Prepared, IsSituation}
+use Rattle.situations.specs.Situation.{Index, outlined, Prepared, IsSituation}
 use Rattle.occurrence.proofs.Reading.{enabled-told, binding-lent}
 
-pub test-refused : (ws : List ℕ) (t : ℕ) (ms bs : List ℕ) {s : Situation} {n p : ℕ} → IsSituation ws t ms s → s .end ≡ Refused n p → TestRefused n p ≡ testCall ws t ms bs
+pub test-refused : (ws : List ℕ) (t : ℕ) (ms bs : List ℕ) {s : Index} {n p : ℕ} → IsSituation ws t ms s → s .end ≡ Refused n p → TestRefused n p ≡ testCall ws t ms bs
 unfolding testCall
 test-refused ws t ms bs {n = n} {p = p} i e = rw (i .refuses n p e)
 
-module _ {ws : List ℕ} {t : ℕ} {ms : List ℕ} {s : Situation} (p : Prepared ws t ms s) where
+module _ {ws : List ℕ} {t : ℕ} {ms : List ℕ} {s : Index} (p : Prepared ws t ms s) where
   pub as-many : s .transition .variables ≡ length (p .transition .variables)
   as-many = ap (λ (o : Outline). o .variables) (p .outlines)
 
@@ -71,8 +69,8 @@ module _ {ws : List ℕ} {t : ℕ} {ms : List ℕ} {s : Situation} (p : Prepared
       pub bound-lent : lent bs ≡ bound (bound-read .0)
       bound-lent = binding-lent bs (bound-read .0) (is-binding .words) (ranged-small ws (s .transition .variables) (s .position + 1) (bound-read .0) (rw variables-same (is-binding .ranged)))
 
-      pub test-answers : {u : Bool} {begins : List ℕ} → begins ≡ s .begins → IsEnabledAt ws (take (s .places) (s .«places_at»)) (outlined (s .transition) .guard) (outlined (s .transition) .inputs) ms begins bs u → yesOrNo u ≡ testCall ws t ms bs
+      pub test-answers : {u : Bool} → IsEnabledAt ws (take (s .places) (s .«places_at»)) (outlined s .guard) (outlined s .inputs) ms (s .begins) bs u → yesOrNo u ≡ testCall ws t ms bs
       unfolding testCall
-      test-answers g f =
-          let e = enabled-told ws bs (p .net .places) (s .position) (p .transition) (p .after) (p .there) bound-length (take (s .places) (s .«places_at»)) (p .placed) (ap (λ (o : Outline). o .guard) (p .outlines)) (ap (λ (o : Outline). o .inputs) (p .outlines)) (p .entries) (p .end) (p .marked) (rw g (p .begins)) (bound-read .0) bound-lent f in
+      test-answers f =
+          let e = enabled-told ws bs (p .net .places) (s .position) (p .transition) (p .after) (p .there) bound-length (take (s .places) (s .«places_at»)) (p .placed) (ap (λ (o : Outline). o .guard) (p .outlines)) (ap (λ (o : Outline). o .inputs) (p .outlines)) (p .entries) (p .end) (p .marked) (p .begins) (bound-read .0) bound-lent f in
           rw (p .same, bound-read .1) (ap yesOrNo e)

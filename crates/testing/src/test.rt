@@ -1,7 +1,7 @@
-// The call test: whether a binding of a transition is enabled in a marking.
+// The call test: whether a binding of a transition is enabled in a marking. Rests on situations and occurrence.
 use expression::read::Skipped;
 use marking::binding::read_binding;
-use occurrence::enabled::occurs;
+use occurrence::enabled::is_enabled;
 use semantics::Tested;
 use situations::situation::prepare;
 ghost use mathlib.Core.Path.{_≡_};
@@ -11,7 +11,23 @@ ghost use Rattle.semantics.specs.Calls.{testCall};
 pub fn test(net: &[u32], transition: u32, marking: &[u32], binding: &[u32]) -> Tested
     ensures { λ r. ⌜ r ≡ testCall (now (net .entry)) transition (now (marking .entry)) (now (binding .entry)) ⌝ }
 {
-    let s = prepare(net, transition, marking);
+    let mut places_at = [0usize; 64];
+    let mut ins = [0usize; 8];
+    let mut outs = [0usize; 8];
+    let mut guard = [0usize; 8];
+    let mut plan = [0usize; 8];
+    let mut begins = [0usize; 65];
+    let s = prepare(
+        net,
+        transition,
+        marking,
+        &mut places_at,
+        &mut ins,
+        &mut outs,
+        &mut guard,
+        &mut plan,
+        &mut begins,
+    );
     let end = s.end;
     match end {
         Skipped::Refused(n, p) => Tested::Refused(n, p),
@@ -21,9 +37,17 @@ pub fn test(net: &[u32], transition: u32, marking: &[u32], binding: &[u32]) -> T
                 Skipped::Refused(m, q) => Tested::Refused(m, q),
                 Skipped::Next(_) => {
                     let places = s.places;
-                    let places_at = s.places_at;
-                    let begins = s.begins;
-                    if occurs(net, &places_at[..places], t, marking, &begins[..], binding) {
+                    let conjuncts = t.conjuncts;
+                    let inputs = t.inputs;
+                    if is_enabled(
+                        net,
+                        &places_at[..places],
+                        &guard[..conjuncts],
+                        &ins[..inputs],
+                        marking,
+                        &begins[..],
+                        binding,
+                    ) {
                         return Tested::Yes;
                     }
                     Tested::No

@@ -1,7 +1,7 @@
--- `firing::fire::fire` meets its contract: each return is a rule of `Calling`.
-use mathlib.Core.Path.{_≡_, sym, _∙_}
+-- `firing::fire::fire` meets its contract: each return is a rule of `Calling`. The tables that are lent keep their length.
+use mathlib.Core.Path.{_≡_, sym}
 use native.Mathlib.Omega.{arith}
-use lib.ListN.{length, length-map}
+use lib.ListN.{length}
 use lib.Seq.{length-take-le}
 use Rattle.testing.proofs.Testing.{variables-inside}
 use Rattle.firing.proofs.Calling.{fire-refused, fire-unbound, fireable, fire-answers}
@@ -9,73 +9,146 @@ use borrow.Author.Needs.{needs}
 use Rattle.firing.proofs.fire.fire.Statement.{statement}
 use Rattle.firing.proofs.fire.fire.Tie as tie
 
-places-full : (c : tie.After-prepare) → length (c .prepare .result .«places_at») ≡ 64
-places-full c = sym (length-map (c .prepare .result .«places_at») _) ∙ c .prepare .ok .1 .1 .1 .1 .0 .1 .0 .1
+places-full : (c : tie.After-prepare) → length (c .prepare .last .1 .1 .1 .0) ≡ 64
+places-full c = c .prepare .kept .1 .1 .1 .0
 
-begins-full : (c : tie.After-prepare) → length (c .prepare .result .begins) ≡ 65
-begins-full c = sym (length-map (c .prepare .result .begins) _) ∙ c .prepare .ok .1 .1 .1 .1 .1 .1 .1 .0 .1 .0 .1
+ins-full : (c : tie.After-prepare) → length (c .prepare .last .1 .1 .1 .1 .0) ≡ 8
+ins-full c = c .prepare .kept .1 .1 .1 .1 .0
 
-prepare-requires : tie.Need-prepare-requires
-prepare-requires c κs = search needs
+outs-full : (c : tie.After-prepare) → length (c .prepare .last .1 .1 .1 .1 .1 .0) ≡ 8
+outs-full c = c .prepare .kept .1 .1 .1 .1 .1 .0
 
-enum-known-end : tie.Need-enum-known-end
-enum-known-end c = search needs
+guard-full : (c : tie.After-prepare) → length (c .prepare .last .1 .1 .1 .1 .1 .1 .0) ≡ 8
+guard-full c = c .prepare .kept .1 .1 .1 .1 .1 .1 .0
 
-enum-told : tie.Need-enum-told
-enum-told c = search needs
+begins-full : (c : tie.After-prepare) → length (c .prepare .last .1 .1 .1 .1 .1 .1 .1 .1 .0) ≡ 65
+begins-full c = c .prepare .kept .1 .1 .1 .1 .1 .1 .1 .1 .0
 
 add-read-binding : tie.Need-add-read-binding
-add-read-binding c = let inside = variables-inside (c .before .before .before .before .prepare .ensures .prepares _ (c .before .before .enum-told .given .1)) in omega arith
+add-read-binding c =
+    let g = c .before .before .before .before .before .before .before .before .before .before .before .before .before .before .before .before .before .before .before .before .before .good .0 in
+    let inside = variables-inside (c .before .before .before .before .before .before .before .before .before .before .prepare .ensures .prepares _ (c .before .before .enum-told .given .1)) in
+    omega arith
 
 read-binding-requires : tie.Need-read-binding-requires
-read-binding-requires c κs = variables-inside (c .before .before .before .before .prepare .ensures .prepares _ (c .before .before .enum-told .given .1))
+read-binding-requires c κs = variables-inside (c .before .before .before .before .before .before .before .before .before .before .prepare .ensures .prepares _ (c .before .before .enum-told .given .1))
 
-enum-known-m : tie.Need-enum-known-m
-enum-known-m c = search needs
+places-share : tie.Need-array-share-prefix-places-at
+places-share c =
+    let n = c .before .before .before .before .before .before .before .before .before .before .before .before .before in
+    let few = n .prepare .ensures .prepares _ (c .before .before .before .before .before .enum-told .given .1) .few in
+    let l = places-full n in
+    omega arith
 
-enum-told-2 : tie.Need-enum-told-2
-enum-told-2 c = search needs
+places-slice : tie.Need-slice-aggregate-fire-arcs
+places-slice c =
+    let n = c .before .before .before .before .before .before .before .before .before .before .before .before .before .before in
+    let few = n .prepare .ensures .prepares _ (c .before .before .before .before .before .before .enum-told .given .1) .few in
+    let l = places-full n in
+    sym (length-take-le _ _ (omega arith))
 
-array-share-prefix-places-at : tie.Need-array-share-prefix-places-at
-array-share-prefix-places-at c = let few = (c .before .before .before .before .before .before .before .before .before .prepare .ensures .prepares _ (c .before .before .before .before .before .before .before .enum-told .given .1)) .few in let l = places-full (c .before .before .before .before .before .before .before .before .before) in omega arith
+guard-share : tie.Need-array-share-prefix-guard
+guard-share c =
+    let n = c .before .before .before .before .before .before .before .before .before .before .before .before .before .before in
+    let few = n .prepare .ensures .prepares _ (c .before .before .before .before .before .before .enum-told .given .1) .few-conjuncts in
+    let l = guard-full n in
+    omega arith
 
-slice-aggregate-fire-binding : tie.Need-slice-aggregate-fire-binding
-slice-aggregate-fire-binding c = let few = (c .before .before .before .before .before .before .before .before .before .before .prepare .ensures .prepares _ (c .before .before .before .before .before .before .before .before .enum-told .given .1)) .few in let l = places-full (c .before .before .before .before .before .before .before .before .before .before) in sym (length-take-le _ _ (omega arith))
+guard-slice : tie.Need-slice-aggregate-fire-arcs-2
+guard-slice c =
+    let n = c .before .before .before .before .before .before .before .before .before .before .before .before .before .before .before in
+    let few = n .prepare .ensures .prepares _ (c .before .before .before .before .before .before .before .enum-told .given .1) .few-conjuncts in
+    let l = guard-full n in
+    sym (length-take-le _ _ (omega arith))
 
-slice-aggregate-fire-binding-2 : tie.Need-slice-aggregate-fire-binding-2
-slice-aggregate-fire-binding-2 c = sym (begins-full (c .before .before .before .before .before .before .before .before .before .before .before))
+ins-share : tie.Need-array-share-prefix-ins
+ins-share c =
+    let n = c .before .before .before .before .before .before .before .before .before .before .before .before .before .before .before in
+    let few = n .prepare .ensures .prepares _ (c .before .before .before .before .before .before .before .enum-told .given .1) .few-inputs in
+    let l = ins-full n in
+    omega arith
 
-fire-binding-requires : tie.Need-fire-binding-requires
-fire-binding-requires c κs = ((c .before .before .before .before .before .before .before .before .before .before .before .before .prepare .ensures .prepares _ (c .before .before .before .before .before .before .before .before .before .before .enum-told .given .1)) .fits, (begins-full (c .before .before .before .before .before .before .before .before .before .before .before .before), fireable (c .before .before .before .before .before .before .before .before .before .before .before .before .prepare .ensures .prepares _ (c .before .before .before .before .before .before .before .before .before .before .enum-told .given .1)) (c .before .before .before .before .before .before .before .before .before .before .before .before .before .before .before .before .before .args .binding .now) (c .before .before .before .before .before .before .before .read-binding .result) (c .before .before .before .before .before .before .before .read-binding .ensures) (c .before .before .before .before .before .enum-told2 .given .1)))
+ins-slice : tie.Need-slice-aggregate-fire-arcs-3
+ins-slice c =
+    let n = c .before .before .before .before .before .before .before .before .before .before .before .before .before .before .before .before in
+    let few = n .prepare .ensures .prepares _ (c .before .before .before .before .before .before .before .before .enum-told .given .1) .few-inputs in
+    let l = ins-full n in
+    sym (length-take-le _ _ (omega arith))
+
+outs-share : tie.Need-array-share-prefix-outs
+outs-share c =
+    let n = c .before .before .before .before .before .before .before .before .before .before .before .before .before .before .before .before in
+    let few = n .prepare .ensures .prepares _ (c .before .before .before .before .before .before .before .before .enum-told .given .1) .few-outputs in
+    let l = outs-full n in
+    omega arith
+
+outs-slice : tie.Need-slice-aggregate-fire-arcs-4
+outs-slice c =
+    let n = c .before .before .before .before .before .before .before .before .before .before .before .before .before .before .before .before .before in
+    let few = n .prepare .ensures .prepares _ (c .before .before .before .before .before .before .before .before .before .enum-told .given .1) .few-outputs in
+    let l = outs-full n in
+    sym (length-take-le _ _ (omega arith))
+
+fire-arcs-requires : tie.Need-fire-arcs-requires
+fire-arcs-requires c κs =
+    let b = c .before .before .before .before .before .before .before .before in
+    let n = b .before .before .before .before .before .before .before .before .before .before .before in
+    let P = n .prepare .ensures .prepares _ (b .before .before .before .enum-told .given .1) in
+    let few = P .few-inputs in
+    let few′ = P .few-outputs in
+    let i = ins-full n in
+    let o = outs-full n in
+    let j = length-take-le (n .prepare .result .transition .inputs) (n .prepare .last .1 .1 .1 .1 .0) (omega arith) in
+    let k = length-take-le (n .prepare .result .transition .outputs) (n .prepare .last .1 .1 .1 .1 .1 .0) (omega arith) in
+    (P .fits, (begins-full n, ((omega arith, omega arith), fireable P (n .before .before .before .before .before .before .before .before .before .before .before .args .binding .now) (b .read-binding .result) (b .read-binding .ensures) (c .before .before .before .before .before .before .enum-told2 .given .1))))
 
 returns : tie.Need-returns
-returns c = fire-refused (c .before .before .before .before .before .before .before .before .args .net .now) (c .before .before .before .before .before .before .before .before .args .transition) (c .before .before .before .before .before .before .before .before .args .marking .now) (c .before .before .before .before .before .before .before .before .args .binding .now) (c .before .before .before .before .before .before .before .before .args .next .now) (c .before .before .before .prepare .ensures) (c .before .end .given .1)
+returns c =
+    let n = c .before .before .before .before .before .before .before .before .before in
+    let a = n .before .before .before .before .before .before .before .before .before .before .before .args in
+    fire-refused (a .net .now) (a .transition) (a .marking .now) (a .binding .now) (a .next .now) (n .prepare .ensures) (c .before .end .given .1)
 
 returns-2 : tie.Need-returns-2
-returns-2 c = fire-unbound (c .before .before .before .before .before .before .before .before .prepare .ensures .prepares _ (c .before .before .before .before .before .before .enum-told .given .1)) (c .before .before .before .before .before .before .before .before .before .before .before .before .before .args .binding .now) (c .before .before .before .read-binding .result) (c .before .before .before .read-binding .ensures) (c .before .before .before .before .before .before .before .before .before .before .before .before .before .args .next .now) (c .before .m .given .1)
-
-same-length : tie.Need-same-length
-same-length c = search needs
+returns-2 c =
+    let b = c .before .before .before in
+    let n = b .before .before .before .before .before .before .before .before .before .before .before in
+    let a = n .before .before .before .before .before .before .before .before .before .before .before .args in
+    fire-unbound (n .prepare .ensures .prepares _ (b .before .before .before .enum-told .given .1)) (a .binding .now) (b .read-binding .result) (b .read-binding .ensures) (a .next .now) (c .before .m .given .1)
 
 returns-3 : tie.Need-returns-3
-returns-3 c = fire-answers (c .before .before .before .before .before .before .before .before .before .before .before .before .before .before .before .prepare .ensures .prepares _ (c .before .before .before .before .before .before .before .before .before .before .before .before .before .enum-told .given .1)) (c .before .before .before .before .before .before .before .before .before .before .before .before .before .before .before .before .before .before .before .before .args .binding .now) (c .before .before .before .before .before .before .before .before .before .before .read-binding .result) (c .before .before .before .before .before .before .before .before .before .before .read-binding .ensures) (c .before .before .before .before .before .before .before .before .enum-told2 .given .1) (c .before .before .fire-binding .ensures)
+returns-3 c =
+    let b = c .before .before .before .before .before .before .before .before .before .before .before in
+    let n = b .before .before .before .before .before .before .before .before .before .before .before in
+    fire-answers (n .prepare .ensures .prepares _ (b .before .before .before .enum-told .given .1)) (n .before .before .before .before .before .before .before .before .before .before .before .args .binding .now) (b .read-binding .result) (b .read-binding .ensures) (c .before .before .before .before .before .before .before .before .before .enum-told2 .given .1) (c .before .before .fire-arcs .ensures)
 
 pub fire-spec : {M : Type 1} → statement M
 fire-spec =
     tie.close
     (tie.spec
-    prepare-requires
-    enum-known-end
-    enum-told
+    (λ c. search needs)
+    (λ c. search needs)
+    (λ c. search needs)
+    (λ c. search needs)
+    (λ c. search needs)
+    (λ c. search needs)
+    (λ c κs. search needs)
+    (λ c. search needs)
+    (λ c. search needs)
     add-read-binding
     read-binding-requires
-    enum-known-m
-    enum-told-2
-    array-share-prefix-places-at
-    slice-aggregate-fire-binding
-    slice-aggregate-fire-binding-2
-    fire-binding-requires
+    (λ c. search needs)
+    (λ c. search needs)
+    places-share
+    places-slice
+    guard-share
+    guard-slice
+    ins-share
+    ins-slice
+    outs-share
+    outs-slice
+    (λ c. search needs)
+    fire-arcs-requires
     returns
     returns-2
-    same-length
+    (λ c. search needs)
     returns-3)

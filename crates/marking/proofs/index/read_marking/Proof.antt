@@ -1,10 +1,11 @@
--- `marking::index::read_marking` meets its contract: the loop of `Rising`.
-use mathlib.Core.Path.{refl}
+-- `marking::index::read_marking` meets its contract: the loop of `Rising`. The table that is lent keeps its length.
+use mathlib.Core.Path.{_≡_, sym, _∙_}
 use Prim.Native.Nat.{_-_}
-use lib.ListN.{length}
+use lib.ListN.{length, length-set}
+use lib.Seq.{getD-set-same}
 use Rattle.net.specs.Places.{placesAt}
 use Rattle.net.proofs.Placed.{places-length}
-use Rattle.marking.proofs.Rising.{SoFar, so-far-start, entry-ends, marking-goes, indexing}
+use Rattle.marking.proofs.Rising.{SoFar, so-far-start, entry-ends, marking-ends, marking-goes, indexing}
 use native.Mathlib.Omega.{arith}
 use borrow.Author.Needs.{needs}
 use Rattle.marking.proofs.index.read_marking.Statement.{statement}
@@ -16,24 +17,14 @@ Inv-loop net places words begins₀ last₀ place₀ at₀ begins last place at 
 abbrev μ-loop : tie.MeasureT-loop
 μ-loop net places words begins₀ last₀ place₀ at₀ begins last place at = length words - at
 
+slice-write-begins : tie.Need-slice-write-begins Inv-loop μ-loop
+slice-write-begins c = let l = c .before .before .before .before .pre .1 in omega arith
+
 loop-holds : tie.Need-loop-holds Inv-loop μ-loop
-loop-holds c = so-far-start _ _ _ refl refl
-
-returns : tie.Need-returns Inv-loop μ-loop
-returns c = search indexing
-
-loop-again : tie.Need-loop-again Inv-loop μ-loop
-loop-again c =
-    let ends = entry-ends (c .before .before .before .before .before .before .before .before .before .before .loop .inv) (c .before .before .before .before .before .before .before .before .before .loop-test .taken) (c .before .before .before .before .before .before .before .before .read-entry .ensures) (c .before .before .before .before .before .before .p .given .1) in
-    let places = c .before .before .before .before .before .before .before .before .before .before .before .before .before .before .pre .few in
-    let inside = ends .2 in
-    marking-goes (c .before .before .before .before .before .before .before .before .before .before .loop .inv) (c .before .before .before .before .before .before .before .before .before .loop-test .taken) (c .before .before .before .before .before .before .before .before .read-entry .ensures) (c .before .before .before .before .before .before .p .given .1) (c .before .before .before .before .rises .ensures) (c .before .before .before .if1 .left) (search needs) (omega (arith, places-length (c .before .before .before .before .before .before .before .before .before .before .before .before .before .before .args .net .now) (c .before .before .before .before .before .before .before .before .before .before .before .before .before .before .args .places .now))) (c .before .begin-all .ensures)
-
-returns-2 : tie.Need-returns-2 Inv-loop μ-loop
-returns-2 c = search indexing
-
-returns-3 : tie.Need-returns-3 Inv-loop μ-loop
-returns-3 c = search indexing
+loop-holds c =
+    let b = c .before .before .before .before .args .begins .now in
+    let l = c .before .before .before .before .pre .1 in
+    so-far-start _ _ _ (length-set b 0 0 ∙ l) (getD-set-same b 0 0 0 (omega arith))
 
 -- the entry ends after its first word, inside the words
 sub-rises : tie.Need-sub-rises Inv-loop μ-loop
@@ -45,30 +36,58 @@ sub-rises-2 c = let ends = entry-ends (c .before .before .before .before .before
 rises-requires : tie.Need-rises-requires Inv-loop μ-loop
 rises-requires c κs =
     let ends = entry-ends (c .before .before .before .before .before .loop .inv) (c .before .before .before .before .loop-test .taken) (c .before .before .before .read-entry .ensures) (c .before .p .given .1) in
-    let back = c .before .before .before .before .before .loop .inv .back in
-    (back, omega (arith, ends .0, ends .1))
+    (c .before .before .before .before .before .loop .inv .back, omega (arith, ends .0, ends .1))
 
--- its place is one of at most 64
-begin-all-requires : tie.Need-begin-all-requires Inv-loop μ-loop
-begin-all-requires c κs =
-    let ends = entry-ends (c .before .before .before .before .before .before .before .before .loop .inv) (c .before .before .before .before .before .before .before .loop-test .taken) (c .before .before .before .before .before .before .read-entry .ensures) (c .before .before .before .before .p .given .1) in
-    let places = c .before .before .before .before .before .before .before .before .before .before .before .before .pre .few in
-    omega (arith, ends .2, places-length (c .before .before .before .before .before .before .before .before .before .before .before .before .args .net .now) (c .before .before .before .before .before .before .before .before .before .before .before .before .args .places .now))
+same-length : tie.Need-same-length Inv-loop μ-loop
+same-length c = c .before .before .before .before .before .before .before .loop .inv .long ∙ sym (c .before .before .before .before .before .before .before .before .before .before .before .before .pre .1)
+
+returns : tie.Need-returns Inv-loop μ-loop
+returns c = search indexing
 
 add-begin-all : tie.Need-add-begin-all Inv-loop μ-loop
 add-begin-all c = let few = c .before .before .before .before .before .before .before .before .loop .inv .few in omega arith
 
+-- its place is one of at most 64
 add-begin-all-2 : tie.Need-add-begin-all-2 Inv-loop μ-loop
 add-begin-all-2 c =
     let ends = entry-ends (c .before .before .before .before .before .before .before .before .loop .inv) (c .before .before .before .before .before .before .before .loop-test .taken) (c .before .before .before .before .before .before .read-entry .ensures) (c .before .before .before .before .p .given .1) in
-    let places = c .before .before .before .before .before .before .before .before .before .before .before .before .pre .few in
-    omega (arith, ends .2, places-length (c .before .before .before .before .before .before .before .before .before .before .before .before .args .net .now) (c .before .before .before .before .before .before .before .before .before .before .before .before .args .places .now))
+    let places = c .before .before .before .before .before .before .before .before .before .before .before .before .before .pre .0 .few in
+    omega (arith, ends .2, places-length (c .before .before .before .before .before .before .before .before .before .before .before .before .before .args .net .now) (c .before .before .before .before .before .before .before .before .before .before .before .before .before .args .places .now))
+
+begin-all-requires : tie.Need-begin-all-requires Inv-loop μ-loop
+begin-all-requires c κs =
+    let ends = entry-ends (c .before .before .before .before .before .before .before .before .loop .inv) (c .before .before .before .before .before .before .before .loop-test .taken) (c .before .before .before .before .before .before .read-entry .ensures) (c .before .before .before .before .p .given .1) in
+    let places = c .before .before .before .before .before .before .before .before .before .before .before .before .before .pre .0 .few in
+    let long = c .before .before .before .before .before .before .before .before .loop .inv .long in
+    omega (arith, ends .2, places-length (c .before .before .before .before .before .before .before .before .before .before .before .before .before .args .net .now) (c .before .before .before .before .before .before .before .before .before .before .before .before .before .args .places .now))
 
 loop-less : tie.Need-loop-less Inv-loop μ-loop
-loop-less c = let ends = entry-ends (c .before .before .before .before .before .before .before .before .before .before .loop .inv) (c .before .before .before .before .before .before .before .before .before .loop-test .taken) (c .before .before .before .before .before .before .before .before .read-entry .ensures) (c .before .before .before .before .before .before .p .given .1) in omega (arith, ends .0, ends .1)
+loop-less c = let ends = entry-ends (c .before .before .before .before .before .before .before .before .before .before .before .loop .inv) (c .before .before .before .before .before .before .before .before .before .before .loop-test .taken) (c .before .before .before .before .before .before .before .before .before .read-entry .ensures) (c .before .before .before .before .before .before .before .p .given .1) in omega (arith, ends .0, ends .1)
+
+loop-again : tie.Need-loop-again Inv-loop μ-loop
+loop-again c =
+    let ends = entry-ends (c .before .before .before .before .before .before .before .before .before .before .before .loop .inv) (c .before .before .before .before .before .before .before .before .before .before .loop-test .taken) (c .before .before .before .before .before .before .before .before .before .read-entry .ensures) (c .before .before .before .before .before .before .before .p .given .1) in
+    let places = c .before .before .before .before .before .before .before .before .before .before .before .before .before .before .before .before .pre .0 .few in
+    let inside = ends .2 in
+    marking-goes (c .before .before .before .before .before .before .before .before .before .before .before .loop .inv) (c .before .before .before .before .before .before .before .before .before .before .loop-test .taken) (c .before .before .before .before .before .before .before .before .before .read-entry .ensures) (c .before .before .before .before .before .before .before .p .given .1) (c .before .before .before .before .before .rises .ensures) (c .before .before .before .before .if1 .left) (c .before .before .begin-all .kept .0) (omega (arith, places-length (c .before .before .before .before .before .before .before .before .before .before .before .before .before .before .before .before .args .net .now) (c .before .before .before .before .before .before .before .before .before .before .before .before .before .before .before .before .args .places .now))) (c .before .before .begin-all .ensures)
+
+same-length-2 : tie.Need-same-length-2 Inv-loop μ-loop
+same-length-2 c = c .before .before .before .before .before .loop .inv .long ∙ sym (c .before .before .before .before .before .before .before .before .before .before .pre .1)
+
+returns-2 : tie.Need-returns-2 Inv-loop μ-loop
+returns-2 c = search indexing
 
 add-begin-all-3 : tie.Need-add-begin-all-3 Inv-loop μ-loop
 add-begin-all-3 c = let few = c .before .before .loop .inv .few in omega arith
+
+begin-all-requires-2 : tie.Need-begin-all-requires-2 Inv-loop μ-loop
+begin-all-requires-2 c κs = let long = c .before .before .loop .inv .long in omega arith
+
+same-length-3 : tie.Need-same-length-3 Inv-loop μ-loop
+same-length-3 c = c .before .before .begin-all2 .kept .0 ∙ c .before .before .before .before .before .loop .inv .long ∙ sym (c .before .before .before .before .before .before .before .before .before .before .pre .1)
+
+returns-3 : tie.Need-returns-3 Inv-loop μ-loop
+returns-3 c = marking-ends (c .before .before .before .before .before .loop .inv) (c .before .before .before .before .loop-test .left) (c .before .before .begin-all2 .ensures)
 
 pub read-marking-spec : {M : Type 1} → statement M
 read-marking-spec =
@@ -76,22 +95,24 @@ read-marking-spec =
     (tie.spec
     Inv-loop
     μ-loop
+    slice-write-begins
     loop-holds
     (λ c κs. search needs)
     (λ c. search needs)
     sub-rises
     sub-rises-2
     rises-requires
+    same-length
     returns
-    (λ c. search needs)
     add-begin-all
     add-begin-all-2
     begin-all-requires
     loop-less
     loop-again
     (λ c. search needs)
+    same-length-2
     returns-2
-    (λ c. search needs)
     add-begin-all-3
-    (λ c κs. search needs)
+    begin-all-requires-2
+    same-length-3
     returns-3)

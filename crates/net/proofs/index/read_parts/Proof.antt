@@ -42,6 +42,7 @@ returns-2 c =
       same = parts-end _ _ _ w e (s0 .skip-ranges .result) (s1 .skip-several .result) (s2 .skip-several2 .result) (s3 .skip-several3 .result) (s4 .skip-several4 .result) _ _ _ _ (s0 .skip-ranges .ensures) (s1 .skip-several .ensures) (s2 .skip-several2 .ensures) (s3 .skip-several3 .ensures) (s4 .skip-several4 .ensures);
       few-variables = few-parts w e .0;
       few-inputs = few-parts w e .1;
+      few-outputs = few-parts w e .2;
       few-conjuncts = few-parts w e .3;
       few-elements = few-parts w e .4;
     }

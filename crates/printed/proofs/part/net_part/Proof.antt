@@ -6,19 +6,25 @@ use Rattle.printed.proofs.part.net_part.Statement.{statement}
 use Rattle.printed.proofs.part.net_part.Tie as tie
 
 first-word : tie.Need-shared-slice-read-transitions
-first-word c = headed _ ((c .before .before .before .before .pre) .net) ((c .before .before .before .before .pre) .next) ((c .before .before .before .before .pre) .accepted) .some-word
+first-word c = let p = c .before .before .before .before .pre in headed _ (p .net) (p .next) (p .accepted) .some-word
 
 returns : tie.Need-returns
-returns c = net-past _ _ ((c .if1) .taken)
+returns c = net-past _ _ (c .if1 .taken)
 
 put-menu-requires : tie.Need-put-menu-requires
-put-menu-requires c κs = net-ready _ _ ((c .before .before .before .before .before .if1) .left) ((c .before .before .before .before .prepare) .ensures) ((c .before .before .enum-told) .given .1)
+put-menu-requires c κs =
+    let n = c .before .before .before .before .before .before .before .before .before .before in
+    net-ready _ _ (n .before .before .before .before .before .before .before .if1 .left) (n .prepare .ensures) (c .before .before .enum-told .given .1)
 
 returns-2 : tie.Need-returns-2
-returns-2 c = net-refused _ _ ((c .before .before .before .before .before .before .before .before .if1) .left) ((c .before .before .before .before .before .before .before .prepare) .ensures) ((c .before .before .before .before .before .end) .given .1) ((c .before .before .refusal-part) .ensures)
+returns-2 c =
+    let n = c .before .before .before .before .before .before .before .before .before .before .before .before .before in
+    net-refused _ _ (n .before .before .before .before .before .before .before .if1 .left) (n .prepare .ensures) (c .before .before .before .before .before .end .given .1) (c .before .before .refusal-part .ensures)
 
 returns-3 : tie.Need-returns-3
-returns-3 c = net-menu _ _ ((c .before .before .before .before .before .before .before .before .if1) .left) ((c .before .before .before .before .before .before .before .prepare) .ensures) ((c .before .before .before .before .before .enum-told) .given .1) ((c .before .before .put-menu) .ensures)
+returns-3 c =
+    let n = c .before .before .before .before .before .before .before .before .before .before .before .before .before in
+    net-menu _ _ (n .before .before .before .before .before .before .before .if1 .left) (n .prepare .ensures) (c .before .before .before .before .before .enum-told .given .1) (c .before .before .put-menu .ensures)
 
 pub net-part-spec : {M : Type 1} → statement M
 net-part-spec =
@@ -27,6 +33,12 @@ net-part-spec =
     first-word
     (λ c. search needs)
     returns
+    (λ c. search needs)
+    (λ c. search needs)
+    (λ c. search needs)
+    (λ c. search needs)
+    (λ c. search needs)
+    (λ c. search needs)
     (λ c. search needs)
     (λ c κs. search needs)
     (λ c. search needs)

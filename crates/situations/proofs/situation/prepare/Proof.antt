@@ -1,5 +1,5 @@
 -- `situations::situation::prepare` meets its contract: each return is a rule of `Situations`. The tables that are lent keep their length.
-use mathlib.Core.Path.{_≡_, refl, sym}
+use mathlib.Core.Path.{_≡_, sym}
 use native.Mathlib.Omega.{arith}
 use borrow.Author.Needs.{needs}
 use lib.ListN.{length}
@@ -19,41 +19,53 @@ long c = search needs
 
 returns : tie.Need-returns
 returns c =
-    let a = c .before .before .before .before .before .before .before .before .before .before .before .before .args in
-    let n = c .before .before .before .before .before .before in
-    net-unaccepted (a .net .now) (a .marking .now) (a .transition) (n .accept-into .result) (n .accept-into .ensures) (c .refused-situation .result) (c .before .enum-told2 .given .1) (c .refused-situation .ensures)
+    let n = c .before .before .before .before .before .before .before in
+    let a = n .before .before .before .before .before .before .before .before .before .before .before .before .args in
+    net-unaccepted (a .net .now) (a .marking .now) (a .transition) (n .accept-into .result) (n .accept-into .ensures) _ (c .before .enum-told2 .given .1) (c .refused-situation .ensures)
 
 returns-2 : tie.Need-returns-2
 returns-2 c =
-    let a = c .before .before .before .before .before .before .before .before .before .before .before .before .before .before .args in
-    let n = c .before .before .before .before .before .before .before .before in
-    transition-unknown (a .net .now) (a .marking .now) (a .transition) (n .accept-into .result) (n .accept-into .ensures) (c .before .before .before .enum-told .given .1) (full n) (wide n) (long n) (c .before .before .at-most .ensures) (c .refused-situation2 .result) (c .before .if1 .taken) (c .refused-situation2 .ensures)
+    let n = c .before .before .before .before .before .before .before .before .before in
+    let a = n .before .before .before .before .before .before .before .before .before .before .before .before .args in
+    transition-unknown (a .net .now) (a .marking .now) (a .transition) (n .accept-into .result) (n .accept-into .ensures) (c .before .before .before .enum-told .given .1) (full n) (wide n) (long n) (c .before .before .at-most .ensures) _ (c .before .if1 .taken) (c .refused-situation2 .ensures)
 
-slice-aggregate-read-transition : tie.Need-slice-aggregate-read-transition
-slice-aggregate-read-transition c =
-    let w = wide (c .before .before .before .before .before .before .before .before .before) in
+slice-aggregate-read-parts : tie.Need-slice-aggregate-read-parts
+slice-aggregate-read-parts c =
+    let n = c .before .before .before .before .before .before .before .before .before .before in
+    let w = wide n in
     let e = c .before .at-most2 .ensures in
     sym (length-take-le _ _ (omega arith))
 
+slice-reshare-prefix-read-marking : tie.Need-slice-reshare-prefix-read-marking
+slice-reshare-prefix-read-marking c =
+    let p = c .before .before .before .before .before .before .before .before in
+    let n = p .before .before .before .before .before .before .before .before .before .before .before .before .before .before .before in
+    let w = full n in
+    let e = p .before .before .before .before .before .before .at-most2 .ensures in
+    omega arith
+
 slice-aggregate-read-marking : tie.Need-slice-aggregate-read-marking
 slice-aggregate-read-marking c =
-    let w = full (c .before .before .before .before .before .before .before .before .before .before .before) in
-    let e = c .before .before .before .at-most2 .ensures in
+    let p = c .before .before .before .before .before .before .before .before .before in
+    let n = p .before .before .before .before .before .before .before .before .before .before .before .before .before .before .before in
+    let w = full n in
+    let e = p .before .before .before .before .before .before .at-most2 .ensures in
     sym (length-take-le _ _ (omega arith))
 
 read-marking-requires : tie.Need-read-marking-requires
 read-marking-requires c κs =
-    let a = c .before .before .before .before .before .before .before .before .before .before .before .before .before .before .before .before .before .args in
-    let n = c .before .before .before .before .before .before .before .before .before .before .before in
-    places-fit (a .net .now) (a .marking .now) (a .transition) (n .accept-into .result) (n .accept-into .ensures) (c .before .before .before .before .before .before .enum-told .given .1) (full n) (wide n) (long n) (c .before .before .before .before .before .at-most .ensures) (c .before .before .before .at-most2 .ensures)
+    let p = c .before .before .before .before .before .before .before .before .before .before in
+    let n = p .before .before .before .before .before .before .before .before .before .before .before .before .before .before .before in
+    let a = n .before .before .before .before .before .before .before .before .before .before .before .before .args in
+    (places-fit (a .net .now) (a .marking .now) (a .transition) (n .accept-into .result) (n .accept-into .ensures) (p .before .before .before .before .before .before .before .before .before .enum-told .given .1) (full n) (wide n) (long n) (p .before .before .before .before .before .before .before .before .at-most .ensures) (p .before .before .before .before .before .before .at-most2 .ensures), n .before .before .before .before .before .before .before .before .before .before .before .before .pre .0 .1)
 
 returns-3 : tie.Need-returns-3
 returns-3 c =
-    let a = c .before .before .before .before .before .before .before .before .before .before .before .before .before .before .before .before .before .before .before .args in
-    let n = c .before .before .before .before .before .before .before .before .before .before .before .before .before in
-    let t = c .before .before .before .read-transition in
-    let m = c .before .read-marking in
-    told (a .net .now) (a .marking .now) (a .transition) (n .accept-into .result) (n .accept-into .ensures) (c .before .before .before .before .before .before .before .before .enum-told .given .1) (full n) (wide n) (long n) (c .before .before .before .before .before .before .before .at-most .ensures) (c .before .before .before .before .before .before .if1 .left) (c .before .before .before .before .before .at-most2 .ensures) (t .result) (t .ensures) (m .result) (m .ensures) _ refl refl refl refl refl refl
+    let m = c .before .before in
+    let p = m .before .before .before .before .before .before .before .before .before .before .before in
+    let n = p .before .before .before .before .before .before .before .before .before .before .before .before .before .before .before in
+    let a = n .before .before .before .before .before .before .before .before .before .before .before .before .args in
+    told (a .net .now) (a .marking .now) (a .transition) (n .accept-into .result) (n .accept-into .ensures) (p .before .before .before .before .before .before .before .before .before .enum-told .given .1) (full n) (wide n) (long n) (p .before .before .before .before .before .before .before .before .at-most .ensures) (p .before .before .before .before .before .before .before .if1 .left) (p .before .before .before .before .before .before .at-most2 .ensures) (p .read-parts .ensures) (m .read-marking .ensures)
 
 pub prepare-spec : {M : Type 1} → statement M
 prepare-spec =
@@ -61,22 +73,29 @@ prepare-spec =
     (tie.spec
     (λ c. search needs)
     (λ c. search needs)
-    (λ c. search needs)
     (λ c κs. search needs)
     (λ c. search needs)
     (λ c. search needs)
     (λ c κs. search needs)
+    (λ c. search needs)
     returns
     (λ c κs. search needs)
     (λ c κs. search needs)
+    (λ c. search needs)
     returns-2
     (λ c. search needs)
     (λ c. search needs)
     (λ c κs. search needs)
     (λ c. search needs)
-    slice-aggregate-read-transition
+    slice-aggregate-read-parts
     (λ c κs. search needs)
-    (λ c. search needs)
+    slice-reshare-prefix-read-marking
     slice-aggregate-read-marking
     read-marking-requires
+    (λ c. search needs)
+    (λ c. search needs)
+    (λ c. search needs)
+    (λ c. search needs)
+    (λ c. search needs)
+    (λ c. search needs)
     returns-3)

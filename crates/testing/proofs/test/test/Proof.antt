@@ -1,7 +1,7 @@
--- `testing::test::test` meets its contract: each return is a rule of `Testing`.
-use mathlib.Core.Path.{_≡_, refl, sym, ap, _∙_}
+-- `testing::test::test` meets its contract: each return is a rule of `Testing`. The tables that are lent keep their length.
+use mathlib.Core.Path.{_≡_, sym, ap, _∙_}
 use native.Mathlib.Omega.{arith}
-use lib.ListN.{length, length-map}
+use lib.ListN.{length}
 use lib.Seq.{length-take-le}
 use Rattle.semantics.specs.Calls.{yesOrNo}
 use Rattle.testing.proofs.Testing.{variables-inside, test-refused, test-unbound, test-answers}
@@ -9,72 +9,124 @@ use borrow.Author.Needs.{needs}
 use Rattle.testing.proofs.test.test.Statement.{statement}
 use Rattle.testing.proofs.test.test.Tie as tie
 
-places-full : (c : tie.After-prepare) → length (c .prepare .result .«places_at») ≡ 64
-places-full c = sym (length-map (c .prepare .result .«places_at») _) ∙ c .prepare .ok .1 .1 .1 .1 .0 .1 .0 .1
+places-full : (c : tie.After-prepare) → length (c .prepare .last .1 .1 .1 .0) ≡ 64
+places-full c = c .prepare .kept .1 .1 .1 .0
 
-begins-full : (c : tie.After-prepare) → length (c .prepare .result .begins) ≡ 65
-begins-full c = sym (length-map (c .prepare .result .begins) _) ∙ c .prepare .ok .1 .1 .1 .1 .1 .1 .1 .0 .1 .0 .1
+ins-full : (c : tie.After-prepare) → length (c .prepare .last .1 .1 .1 .1 .0) ≡ 8
+ins-full c = c .prepare .kept .1 .1 .1 .1 .0
 
-prepare-requires : tie.Need-prepare-requires
-prepare-requires c κs = search needs
+guard-full : (c : tie.After-prepare) → length (c .prepare .last .1 .1 .1 .1 .1 .1 .0) ≡ 8
+guard-full c = c .prepare .kept .1 .1 .1 .1 .1 .1 .0
 
-enum-known-end : tie.Need-enum-known-end
-enum-known-end c = search needs
-
-enum-told : tie.Need-enum-told
-enum-told c = search needs
+begins-full : (c : tie.After-prepare) → length (c .prepare .last .1 .1 .1 .1 .1 .1 .1 .1 .0) ≡ 65
+begins-full c = c .prepare .kept .1 .1 .1 .1 .1 .1 .1 .1 .0
 
 add-read-binding : tie.Need-add-read-binding
-add-read-binding c = let inside = variables-inside (c .before .before .before .before .prepare .ensures .prepares _ (c .before .before .enum-told .given .1)) in omega arith
+add-read-binding c = let inside = variables-inside (c .before .before .before .before .before .before .before .before .before .before .prepare .ensures .prepares _ (c .before .before .enum-told .given .1)) in omega arith
 
 read-binding-requires : tie.Need-read-binding-requires
-read-binding-requires c κs = variables-inside (c .before .before .before .before .prepare .ensures .prepares _ (c .before .before .enum-told .given .1))
+read-binding-requires c κs = variables-inside (c .before .before .before .before .before .before .before .before .before .before .prepare .ensures .prepares _ (c .before .before .enum-told .given .1))
 
-enum-known-m : tie.Need-enum-known-m
-enum-known-m c = search needs
+places-share : tie.Need-array-share-prefix-places-at
+places-share c =
+    let n = c .before .before .before .before .before .before .before .before .before .before .before .before .before in
+    let few = n .prepare .ensures .prepares _ (c .before .before .before .before .before .enum-told .given .1) .few in
+    let l = places-full n in
+    omega arith
 
-enum-told-2 : tie.Need-enum-told-2
-enum-told-2 c = search needs
+places-slice : tie.Need-slice-aggregate-is-enabled
+places-slice c =
+    let n = c .before .before .before .before .before .before .before .before .before .before .before .before .before .before in
+    let few = n .prepare .ensures .prepares _ (c .before .before .before .before .before .before .enum-told .given .1) .few in
+    let l = places-full n in
+    sym (length-take-le _ _ (omega arith))
 
-array-share-prefix-places-at : tie.Need-array-share-prefix-places-at
-array-share-prefix-places-at c = let few = (c .before .before .before .before .before .before .before .before .before .prepare .ensures .prepares _ (c .before .before .before .before .before .before .before .enum-told .given .1)) .few in let l = places-full (c .before .before .before .before .before .before .before .before .before) in omega arith
+guard-share : tie.Need-array-share-prefix-guard
+guard-share c =
+    let n = c .before .before .before .before .before .before .before .before .before .before .before .before .before .before in
+    let few = n .prepare .ensures .prepares _ (c .before .before .before .before .before .before .enum-told .given .1) .few-conjuncts in
+    let l = guard-full n in
+    omega arith
 
-slice-aggregate-occurs : tie.Need-slice-aggregate-occurs
-slice-aggregate-occurs c = let few = (c .before .before .before .before .before .before .before .before .before .before .prepare .ensures .prepares _ (c .before .before .before .before .before .before .before .before .enum-told .given .1)) .few in let l = places-full (c .before .before .before .before .before .before .before .before .before .before) in sym (length-take-le _ _ (omega arith))
+guard-slice : tie.Need-slice-aggregate-is-enabled-2
+guard-slice c =
+    let n = c .before .before .before .before .before .before .before .before .before .before .before .before .before .before .before in
+    let few = n .prepare .ensures .prepares _ (c .before .before .before .before .before .before .before .enum-told .given .1) .few-conjuncts in
+    let l = guard-full n in
+    sym (length-take-le _ _ (omega arith))
 
-slice-aggregate-occurs-2 : tie.Need-slice-aggregate-occurs-2
-slice-aggregate-occurs-2 c = sym (begins-full (c .before .before .before .before .before .before .before .before .before .before .before))
+ins-share : tie.Need-array-share-prefix-ins
+ins-share c =
+    let n = c .before .before .before .before .before .before .before .before .before .before .before .before .before .before .before in
+    let few = n .prepare .ensures .prepares _ (c .before .before .before .before .before .before .before .enum-told .given .1) .few-inputs in
+    let l = ins-full n in
+    omega arith
 
-occurs-requires : tie.Need-occurs-requires
-occurs-requires c κs = ((c .before .before .before .before .before .before .before .before .before .before .before .prepare .ensures .prepares _ (c .before .before .before .before .before .before .before .before .before .enum-told .given .1)) .fits, begins-full (c .before .before .before .before .before .before .before .before .before .before .before))
+ins-slice : tie.Need-slice-aggregate-is-enabled-3
+ins-slice c =
+    let n = c .before .before .before .before .before .before .before .before .before .before .before .before .before .before .before .before in
+    let few = n .prepare .ensures .prepares _ (c .before .before .before .before .before .before .before .before .enum-told .given .1) .few-inputs in
+    let l = ins-full n in
+    sym (length-take-le _ _ (omega arith))
+
+is-enabled-requires : tie.Need-is-enabled-requires
+is-enabled-requires c κs =
+    let n = c .before .before .before .before .before .before .before .before .before .before .before .before .before .before .before .before .before in
+    let P = n .prepare .ensures .prepares _ (c .before .before .before .before .before .before .before .before .before .enum-told .given .1) in
+    let few = P .few-inputs in
+    let l = ins-full n in
+    let k = length-take-le (n .prepare .result .transition .inputs) (n .prepare .last .1 .1 .1 .1 .0) (omega arith) in
+    (P .fits, (begins-full n, omega arith))
 
 returns : tie.Need-returns
-returns c = ap yesOrNo (sym (c .if1 .taken)) ∙ test-answers (c .before .before .before .before .before .before .before .before .before .before .before .before .before .prepare .ensures .prepares _ (c .before .before .before .before .before .before .before .before .before .before .before .enum-told .given .1)) (c .before .before .before .before .before .before .before .before .before .before .before .before .before .before .before .before .before .args .binding .now) (c .before .before .before .before .before .before .before .before .read-binding .result) (c .before .before .before .before .before .before .before .before .read-binding .ensures) (c .before .before .before .before .before .before .enum-told2 .given .1) refl (c .before .occurs .ensures)
+returns c =
+    let b = c .before .before .before .before .before .before .before .before in
+    let n = b .before .before .before .before .before .before .before .before .before .before .before in
+    ap yesOrNo (sym (c .if1 .taken)) ∙ test-answers (n .prepare .ensures .prepares _ (b .before .before .before .enum-told .given .1)) (n .before .before .before .before .before .before .before .before .before .before .args .binding .now) (b .read-binding .result) (b .read-binding .ensures) (c .before .before .before .before .before .before .enum-told2 .given .1) (c .before .is-enabled .ensures)
 
 returns-2 : tie.Need-returns-2
-returns-2 c = test-refused (c .before .before .before .before .before .before .before .args .net .now) (c .before .before .before .before .before .before .before .args .transition) (c .before .before .before .before .before .before .before .args .marking .now) (c .before .before .before .before .before .before .before .args .binding .now) (c .before .before .before .prepare .ensures) (c .before .end .given .1)
+returns-2 c =
+    let n = c .before .before .before .before .before .before .before .before .before in
+    let a = n .before .before .before .before .before .before .before .before .before .before .args in
+    test-refused (a .net .now) (a .transition) (a .marking .now) (a .binding .now) (n .prepare .ensures) (c .before .end .given .1)
 
 returns-3 : tie.Need-returns-3
-returns-3 c = test-unbound (c .before .before .before .before .before .before .before .before .prepare .ensures .prepares _ (c .before .before .before .before .before .before .enum-told .given .1)) (c .before .before .before .before .before .before .before .before .before .before .before .before .args .binding .now) (c .before .before .before .read-binding .result) (c .before .before .before .read-binding .ensures) (c .before .m .given .1)
+returns-3 c =
+    let b = c .before .before .before in
+    let n = b .before .before .before .before .before .before .before .before .before .before .before in
+    test-unbound (n .prepare .ensures .prepares _ (b .before .before .before .enum-told .given .1)) (n .before .before .before .before .before .before .before .before .before .before .args .binding .now) (b .read-binding .result) (b .read-binding .ensures) (c .before .m .given .1)
 
 returns-4 : tie.Need-returns-4
-returns-4 c = ap yesOrNo (sym (c .if1 .left)) ∙ test-answers (c .before .before .before .before .before .before .before .before .before .before .before .before .before .prepare .ensures .prepares _ (c .before .before .before .before .before .before .before .before .before .before .before .enum-told .given .1)) (c .before .before .before .before .before .before .before .before .before .before .before .before .before .before .before .before .before .args .binding .now) (c .before .before .before .before .before .before .before .before .read-binding .result) (c .before .before .before .before .before .before .before .before .read-binding .ensures) (c .before .before .before .before .before .before .enum-told2 .given .1) refl (c .before .occurs .ensures)
+returns-4 c =
+    let b = c .before .before .before .before .before .before .before .before in
+    let n = b .before .before .before .before .before .before .before .before .before .before .before in
+    ap yesOrNo (sym (c .if1 .left)) ∙ test-answers (n .prepare .ensures .prepares _ (b .before .before .before .enum-told .given .1)) (n .before .before .before .before .before .before .before .before .before .before .args .binding .now) (b .read-binding .result) (b .read-binding .ensures) (c .before .before .before .before .before .before .enum-told2 .given .1) (c .before .is-enabled .ensures)
 
 pub test-spec : {M : Type 1} → statement M
 test-spec =
     tie.close
     (tie.spec
-    prepare-requires
-    enum-known-end
-    enum-told
+    (λ c. search needs)
+    (λ c. search needs)
+    (λ c. search needs)
+    (λ c. search needs)
+    (λ c. search needs)
+    (λ c. search needs)
+    (λ c κs. search needs)
+    (λ c. search needs)
+    (λ c. search needs)
     add-read-binding
     read-binding-requires
-    enum-known-m
-    enum-told-2
-    array-share-prefix-places-at
-    slice-aggregate-occurs
-    slice-aggregate-occurs-2
-    occurs-requires
+    (λ c. search needs)
+    (λ c. search needs)
+    places-share
+    places-slice
+    guard-share
+    guard-slice
+    ins-share
+    ins-slice
+    (λ c. search needs)
+    is-enabled-requires
     returns
     returns-2
     returns-3
