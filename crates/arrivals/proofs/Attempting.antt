@@ -14,7 +14,7 @@ use Rattle.elements.specs.declared.element.Sort.{Sort}
 use Rattle.elements.specs.declared.element.Sort.the-variants.{Match, Solve, Range as InRange}
 use Rattle.colours.specs.Values.{valuesAt}
 use Rattle.counts.specs.Counts.{coloursAt}
-use Rattle.counts.proofs.Ranked.{colours-length, colours-at, row-room}
+use Rattle.counts.proofs.Ranked.{colours-length, colours-at, entry-room}
 use Rattle.arrivals.specs.declared.step.Step.{Step}
 use Rattle.tries.specs.Partial.{partialOf}
 use Rattle.matches.specs.Met.{matchedBy}
@@ -68,7 +68,7 @@ module _ (v : ℕ) (s : Step) where
   pub entry-inside : (ms : List ℕ) (i : ℕ) → Safe ms v s → {k : ℕ} → s .element .sort ≡ Match k → i < s .count → (s .width ≤ 4) × (s .from + i * (s .width + 1) + (s .width + 1) ≤ length ms)
   entry-inside ms i f e h =
       let g : Inside ms s = subst (SafeBy ms v s) e f in
-      (g .narrow, row-room (s .from) (s .count) (s .width + 1) (length ms) i h (g .inside))
+      (g .narrow, entry-room (s .from) (s .count) (s .width + 1) (length ms) i h (g .inside))
 
   pub value-inside : (ms : List ℕ) (i : ℕ) → Safe ms v s → {n : ℕ} → s .element .sort ≡ InRange n → i < s .count → (n < v) × (i < 16384)
   value-inside ms i f e h =

@@ -19,7 +19,7 @@ use Rattle.kinds.specs.declared.take.Taken.the-variants.{Word, Refused as TakeR
 use Rattle.kinds.specs.Taken.{fitsKind, IsTaken}
 use Rattle.net.proofs.Structures.{stricter, word-refused, word-taken, next-fits}
 use Rattle.net.specs.Places.{rangesFrom}
-use Rattle.colours.specs.Values.{valueIn}
+use Rattle.semantics.proofs.Spans.{valueIn}
 
 -- a VALUE word in a range, told from a word of that kind
 value-word : (ws : List ℕ) (r : Range) (at : ℕ) → word ws 0xC (valueIn r) at ≡ then (word ws 0xC (fitsKind 0xC) at) (λ p next. demand (valueIn r p) at (read p next))

@@ -12,7 +12,7 @@ ghost use Rattle.semantics.specs.Reading.{valuesIn};
 ghost use Rattle.expression.specs.Skip.{forget, skipped};
 ghost use Rattle.word.specs.Fields.{rangeWord};
 ghost use Rattle.net.specs.Places.{rangesFrom};
-ghost use Rattle.colours.specs.Values.{valueIn};
+ghost use Rattle.semantics.proofs.Spans.{valueIn};
 
 // Whether the value of the low 14 bits of one word is at most that of another.
 fn value_at_most(a: u32, b: u32) -> bool

@@ -27,7 +27,7 @@ use Rattle.colours.specs.Values.{valuesAt}
 use Rattle.counts.specs.Counts.{blockAt, coloursAt, rankOf, IsRank, IsSpot}
 use Rattle.marking.specs.Marked.{markingRead, positionOf, beginOf, Begins}
 use Rattle.marking.proofs.Rising.{sizeOf, entry-stands}
-use Rattle.counts.proofs.Ranked.{rank-none, row-room}
+use Rattle.counts.proofs.Ranked.{rank-none, entry-room}
 use Rattle.counts.proofs.Blocks.{on, block, Wide, key-same, position-rank, begin-next, counts-block, Stand, block-stands}
 
 -- ── A marking that was read stands in its words ──
@@ -259,4 +259,4 @@ rank-inside from to size end i h k l =
     omega arith
 
 pub row-inside : (from to size end i : ℕ) → from ≤ to → to ≤ end → i < (to - from) / size → from + i * size + size ≤ end
-row-inside from to size end i h k l = row-room from ((to - from) / size) size end i l (rows-inside from to size end h k)
+row-inside from to size end i h k l = entry-room from ((to - from) / size) size end i l (rows-inside from to size end h k)

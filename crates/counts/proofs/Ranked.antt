@@ -2,10 +2,10 @@
 -- bracket around the rank can be halved; and the entry at the rank is the one of the colour, if there is one.
 use mathlib.Core.Path.{_≡_, refl, sym, ap, _∙_}
 use mathlib.Core.Logic.{_⊎_, inl, inr}
-use Prim.Native.Nat.{ℕ, zero, suc, _+_, _*_, _≤_, _<_}
+use Prim.Native.Nat.{ℕ, zero, suc, _+_, _*_, _≤_, _<_, _-_}
 use mathlib.Core.Bool.{Bool, true, false, cond}
 use mathlib.Core.List.{List, [], _∷_}
-use native.Mathlib.Nat.{suc-mul, mul-le-mul-right}
+use native.Mathlib.Nat.{suc-mul}
 use native.Mathlib.Omega.{arith}
 use lib.IntN.{ℤ}
 use lib.ListN.{length, getD}
@@ -13,6 +13,7 @@ use Rattle.semantics.specs.Lists.{Every}
 use Rattle.semantics.specs.Order.{before, Rising}
 use Rattle.semantics.proofs.Tests.{either, not-both}
 use Rattle.semantics.proofs.Members.{every-number}
+use Rattle.rows.proofs.Rows.{row-room}
 use Rattle.semantics.proofs.Order.{before-trans}
 use Rattle.colours.specs.Values.{valuesAt}
 use Rattle.counts.specs.Counts.{coloursAt, rankOf, IsRank}
@@ -126,8 +127,7 @@ module _ {ws : List ℕ} {n from k : ℕ} {c : List ℤ} {low high : ℕ} (b : B
         }
 
 -- an entry of a block lies inside the words
-pub row-room : (from k size end i : ℕ) → i < k → from + k * size ≤ end → from + i * size + size ≤ end
-row-room from k size end i h l =
-    let m = mul-le-mul-right size h in
-    let s = suc-mul i size in
+pub entry-room : (from k size end i : ℕ) → i < k → from + k * size ≤ end → from + i * size + size ≤ end
+entry-room from k size end i h l =
+    let r = row-room i k size (end - from) h (omega arith) in
     omega arith

@@ -15,7 +15,7 @@ use Rattle.semantics.specs.Word.{kind, payload, bits, only, signed, Range, with
 use Rattle.semantics.specs.Reading.{Reading, read, refused, then, demand, word, valuesIn}
 use Rattle.semantics.specs.Marking.{readEntry}
 use Rattle.semantics.proofs.Tests.{and-left, and-right}
-use Rattle.semantics.proofs.Spans.{Span, then-read, read-same, word-read, drop-first}
+use Rattle.semantics.proofs.Spans.{Span, then-read, read-same, word-read, valueIn, drop-first}
 use Rattle.expression.specs.declared.read.Skipped.{Skipped}
 use Rattle.expression.specs.declared.read.Skipped.the-variants.{Next, Refused}
 use Rattle.expression.specs.Skip.{forget, skipped}
@@ -26,7 +26,7 @@ use Rattle.net.specs.Skim.{changed}
 use Rattle.net.specs.Places.{rangesFrom, widthAt, placesAt, PlacesFit}
 use Rattle.net.proofs.Placed.{places-length, ranges-at, fits-at}
 use Rattle.net.proofs.Structures.{stricter, word-refused, word-taken, next-fits}
-use Rattle.colours.specs.Values.{valuesAt, valueIn}
+use Rattle.colours.specs.Values.{valuesAt}
 use Rattle.marking.specs.Marked.{tokenIn, entryPlace}
 
 -- the last of the three tests of a TOKEN word

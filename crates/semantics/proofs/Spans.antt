@@ -143,11 +143,10 @@ word-reads ws k ok at w rest e s p q =
 -- ── VALUE words ──
 
 -- a VALUE's bits in a range
-valueIn : Range → ℕ → Bool
+abbrev pub valueIn : Range → ℕ → Bool
 valueIn r v = only 14 v && within r (signed v)
 
 value-read : (ws : List ℕ) (r : Range) (at v next : ℕ) → word ws 0xC (valueIn r) at ≡ read v next → Span ws at (valueWord (signed v) ∷ []) next × (within r (signed v) ≡ true)
-unfolding valueIn
 value-read ws r at v next e = by (word-read ws 0xC (valueIn r) at v next e)
   where
     by : (w : ℕ) × Span ws at (w ∷ []) next × (kind w ≡ 0xC) × (payload w ≡ v) × (valueIn r v ≡ true) → Span ws at (valueWord (signed v) ∷ []) next × (within r (signed v) ≡ true)
@@ -157,7 +156,7 @@ value-read ws r at v next e = by (word-read ws 0xC (valueIn r) at v next e)
         (rw same (s .1), and-right (only 14 v) (within r (signed v)) (s .4))
 
 pub values-read : (ws : List ℕ) (rs : List Range) (at : ℕ) (c : List ℤ) (next : ℕ) → valuesIn ws rs at ≡ read c next → Span ws at (map valueWord c) next × (inRanges rs c ≡ true)
-unfolding valuesIn inRanges valueIn
+unfolding valuesIn inRanges
 values-read ws [] at c next e = let s = read-same [] c at next e in rw (← s .0, ← s .1) (span-none ws at, refl)
 values-read ws (r ∷ rs) at c next e =
     then-read (word ws 0xC (valueIn r) at) (λ v mid. then (valuesIn ws rs mid) (λ vs last. read (signed v ∷ vs) last)) c next e λ v mid p q.
@@ -172,7 +171,7 @@ abbrev pub Narrow : List Range → Type 0
 Narrow rs = (r : Range) → List·Memᴰ r rs → (mag (r .low) < 8192) × (mag (r .high) < 8192)
 
 pub values-reads : (ws : List ℕ) (rs : List Range) (at : ℕ) (c : List ℤ) (rest : List ℕ) → Narrow rs → drop at ws ≡ map valueWord c ++ rest → inRanges rs c ≡ true → at + length c ≤ mostWords → valuesIn ws rs at ≡ read c (at + length c)
-unfolding valuesIn inRanges valueIn
+unfolding valuesIn inRanges
 values-reads ws [] at [] rest n d e h = let s : at ≡ at + 0 = omega arith in ap (λ (i : ℕ). read [] i) s
 values-reads ws [] at (z ∷ zs) rest n d e h = false-true e
 values-reads ws (r ∷ rs) at [] rest n d e h = false-true e

@@ -2,7 +2,7 @@
 use lib.ListN.{length}
 use Rattle.colours.specs.Code.{coloured}
 use Prim.Native.Nat.{_+_, _-_, _/_}
-use Rattle.counts.proofs.Ranked.{Bracket, bracket-start, bracket-up, bracket-down, bracket-end, row-room}
+use Rattle.counts.proofs.Ranked.{Bracket, bracket-start, bracket-up, bracket-down, bracket-end, entry-room}
 use native.Mathlib.Omega.{arith}
 use Rattle.counts.proofs.find.rank.Statement.{statement}
 use Rattle.counts.proofs.find.rank.Tie as tie
@@ -29,25 +29,25 @@ returns c = bracket-end (c .before .loop .inv) (c .loop-test .left)
 mul-code-before : tie.Need-mul-code-before Inv-loop μ-loop
 mul-code-before c =
     let inside = c .before .loop .inv .inside in
-    let room = row-room (c .before .before .before .args .from) (c .before .before .before .args .k) (c .before .before .before .args .n + 1) (length (c .before .before .before .args .words .now)) (c .before .loop .low + (c .before .loop .high - c .before .loop .low) / 2) (omega (arith, c .loop-test .taken)) (c .before .before .before .pre .0) in
+    let room = entry-room (c .before .before .before .args .from) (c .before .before .before .args .k) (c .before .before .before .args .n + 1) (length (c .before .before .before .args .words .now)) (c .before .loop .low + (c .before .loop .high - c .before .loop .low) / 2) (omega (arith, c .loop-test .taken)) (c .before .before .before .pre .0) in
     omega arith
 
 add-code-before : tie.Need-add-code-before Inv-loop μ-loop
 add-code-before c =
     let inside = c .before .loop .inv .inside in
-    let room = row-room (c .before .before .before .args .from) (c .before .before .before .args .k) (c .before .before .before .args .n + 1) (length (c .before .before .before .args .words .now)) (c .before .loop .low + (c .before .loop .high - c .before .loop .low) / 2) (omega (arith, c .loop-test .taken)) (c .before .before .before .pre .0) in
+    let room = entry-room (c .before .before .before .args .from) (c .before .before .before .args .k) (c .before .before .before .args .n + 1) (length (c .before .before .before .args .words .now)) (c .before .loop .low + (c .before .loop .high - c .before .loop .low) / 2) (omega (arith, c .loop-test .taken)) (c .before .before .before .pre .0) in
     omega arith
 
 add-code-before-2 : tie.Need-add-code-before-2 Inv-loop μ-loop
 add-code-before-2 c =
     let inside = c .before .loop .inv .inside in
-    let room = row-room (c .before .before .before .args .from) (c .before .before .before .args .k) (c .before .before .before .args .n + 1) (length (c .before .before .before .args .words .now)) (c .before .loop .low + (c .before .loop .high - c .before .loop .low) / 2) (omega (arith, c .loop-test .taken)) (c .before .before .before .pre .0) in
+    let room = entry-room (c .before .before .before .args .from) (c .before .before .before .args .k) (c .before .before .before .args .n + 1) (length (c .before .before .before .args .words .now)) (c .before .loop .low + (c .before .loop .high - c .before .loop .low) / 2) (omega (arith, c .loop-test .taken)) (c .before .before .before .pre .0) in
     omega arith
 
 code-before-requires : tie.Need-code-before-requires Inv-loop μ-loop
 code-before-requires c κs =
     let inside = c .before .loop .inv .inside in
-    let room = row-room (c .before .before .before .args .from) (c .before .before .before .args .k) (c .before .before .before .args .n + 1) (length (c .before .before .before .args .words .now)) (c .before .loop .low + (c .before .loop .high - c .before .loop .low) / 2) (omega (arith, c .loop-test .taken)) (c .before .before .before .pre .0) in
+    let room = entry-room (c .before .before .before .args .from) (c .before .before .before .args .k) (c .before .before .before .args .n + 1) (length (c .before .before .before .args .words .now)) (c .before .loop .low + (c .before .loop .high - c .before .loop .low) / 2) (omega (arith, c .loop-test .taken)) (c .before .before .before .pre .0) in
     omega arith
 
 pub rank-spec : {M : Type 1} → statement M
