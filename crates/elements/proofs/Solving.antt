@@ -1,9 +1,9 @@
 -- The rules of a solve. Each rule is one arm of the code.
 -- In the loop over words the answer for the words ahead is the answer for all of them. A solve binds what the first side binds, or what the
 -- second does where the first binds nothing.
-use mathlib.Core.Path.{_≡_, sym, ap, _∙_, subst}
+use mathlib.Core.Path.{_≡_, refl, sym, ap, _∙_, subst, fun-ext}
 use Prim.Native.Nat.{ℕ, _+_, _≤_, _<_}
-use mathlib.Core.Bool.{Bool, true, false, _&&_}
+use mathlib.Core.Bool.{Bool, true, false, _&&_, _||_}
 use mathlib.Core.List.{List, [], _∷_}
 use native.Mathlib.Omega.{arith}
 use native.Mathlib.Numerals.{add-one}
@@ -12,6 +12,7 @@ use borrow.Author.Tests.{ne-eqb}
 use lib.ListN.{length, take, getD, List·getD-eq-default, drop-of-length-le}
 use lib.Seq.{slice-cons, length-take-le}
 use Rattle.semantics.specs.Lists.{every}
+use Rattle.semantics.specs.Plan.{member}
 use Rattle.semantics.specs.Word.{kind, payload}
 use Rattle.semantics.proofs.Tests.{false-true}
 use Rattle.expression.specs.declared.read.Skipped.{Skipped}
@@ -23,9 +24,8 @@ use Rattle.kinds.specs.declared.take.Taken.the-variants.{Word, Refused as TakeR
 use Rattle.kinds.specs.Taken.{IsTaken}
 use Rattle.net.specs.Skim.{skimExpression}
 use Rattle.net.proofs.Structures.{word-told, next-fits}
-use Rattle.elements.specs.declared.bind.Bound.{Bound}
 use Rattle.elements.specs.Binds.{loneAt, allBound, solvedAt, firstOf, solveAt}
-use Rattle.elements.specs.Bound.{marked, IsBound}
+use Rattle.elements.specs.Bound.{marked, nonEmpty, IsBound}
 use Rattle.elements.proofs.Binding.{bound-none}
 
 -- ── Words with only bound variables ──
@@ -60,57 +60,64 @@ module _ (ws : List ℕ) (p : ℕ → Bool) (at to : ℕ) (l : to ≤ length ws)
 
 -- ── One side ──
 
-module _ (ws : List ℕ) (v at from to : ℕ) (b : Bound) {t : Bool} (e : t ≡ allBound ws (marked (b .marks)) from to) where
-  pub side-known : {r : Bound} → t ≡ true → IsBound b (loneAt ws v (marked (b .marks)) at) r → IsBound b (solvedAt ws v (marked (b .marks)) at from to) r
+module _ (ws : List ℕ) (v at from to : ℕ) (marks : List Bool) {t : Bool} (e : t ≡ allBound ws (marked marks) from to) where
+  pub side-known : {r : Bool} {marks′ : List Bool} → t ≡ true → IsBound marks (loneAt ws v (marked marks) at) r marks′ → IsBound marks (solvedAt ws v (marked marks) at from to) r marks′
   side-known q x = rw (← e, q) x
 
-  pub side-unknown : t ≡ false → IsBound b (solvedAt ws v (marked (b .marks)) at from to) b
-  side-unknown q = rw (← e, q) (bound-none b)
+  pub side-unknown : t ≡ false → IsBound marks (solvedAt ws v (marked marks) at from to) false marks
+  side-unknown q = rw (← e, q) (bound-none marks)
 
 -- ── A solve ──
 
 -- what was bound first, if anything, or else what is bound next
-first-some : (ms ns : List ℕ) (b r : Bound) → b .some ≡ false → IsBound b ms r → r .some ≡ true → IsBound b (firstOf ms ns) r
-first-some [] ns b r f x q = false-true (sym (x .some ∙ f) ∙ q)
-first-some (m ∷ ms) ns b r f x q = x
+first-some : (ms ns : List ℕ) {marks marks′ : List Bool} {r : Bool} → IsBound marks ms r marks′ → r ≡ true → IsBound marks (firstOf ms ns) true marks′
+first-some [] ns x q = false-true (sym (x .some) ∙ q)
+first-some (m ∷ ms) ns x q = record { some = refl; marks = x .marks }
 
-first-none : (ms ns : List ℕ) (b r s : Bound) → IsBound b ms r → r .some ≡ false → IsBound b ns s → IsBound b (firstOf ms ns) s
-first-none [] ns b r s x q y = y
-first-none (m ∷ ms) ns b r s x q y = false-true (sym q ∙ x .some)
+-- where nothing was bound the marks are as they were
+first-none : (ms : List ℕ) (f : (ℕ → Bool) → List ℕ) {marks marks′ marks″ : List Bool} {r s : Bool} → IsBound marks ms r marks′ → r ≡ false → IsBound marks′ (f (marked marks′)) s marks″ → IsBound marks (firstOf ms (f (marked marks))) s marks″
+unfolding member
+first-none [] f {marks} {marks′} {marks″} {r} {s} x q y =
+    let e : marked marks′ ≡ marked marks = fun-ext (x .marks) in
+    record {
+      some = subst (λ (p : ℕ → Bool). s ≡ nonEmpty (f p)) e (y .some);
+      marks = λ k. subst (λ (p : ℕ → Bool). marked marks″ k ≡ (member (f p) k || p k)) e (y .marks k);
+    }
+first-none (m ∷ ms) f x q y = false-true (sym q ∙ x .some)
 
-module _ (ws : List ℕ) (v at : ℕ) (b : Bound) {t : Taken} (w : IsTaken ws at 6 t) where
-  pub solve-refused : {m s : ℕ} → t ≡ TakeRefused m s → IsBound b (solveAt ws v (marked (b .marks)) at) b
+module _ (ws : List ℕ) (v at : ℕ) (marks : List Bool) {t : Taken} (w : IsTaken ws at 6 t) where
+  pub solve-refused : {m s : ℕ} → t ≡ TakeRefused m s → IsBound marks (solveAt ws v (marked marks) at) false marks
   unfolding solveAt
-  solve-refused e = rw (word-told w e) (bound-none b)
+  solve-refused e = rw (word-told w e) (bound-none marks)
 
-  pub solve-other : {k : ℕ} → t ≡ Word k → (k ≡ 0 → ⊥) → IsBound b (solveAt ws v (marked (b .marks)) at) b
+  pub solve-other : {k : ℕ} → t ≡ Word k → (k ≡ 0 → ⊥) → IsBound marks (solveAt ws v (marked marks) at) false marks
   unfolding solveAt
-  solve-other {k} e q = rw (word-told w e, ne-eqb k 0 q) (bound-none b)
+  solve-other {k} e q = rw (word-told w e, ne-eqb k 0 q) (bound-none marks)
 
   module _ {k : ℕ} (e : t ≡ Word k) (z : k ≡ 0) {s : Skipped} (x : skipped s ≡ skimExpression ws v (at + 1)) where
     left-is : {u : Skipped} → s ≡ u → skimExpression ws v (at + 1) ≡ skipped u
     left-is d = sym x ∙ ap skipped d
 
-    pub left-refused : {m p : ℕ} → s ≡ Refused m p → IsBound b (solveAt ws v (marked (b .marks)) at) b
+    pub left-refused : {m p : ℕ} → s ≡ Refused m p → IsBound marks (solveAt ws v (marked marks) at) false marks
     unfolding solveAt
-    left-refused d = rw (word-told w e, z, left-is d) (bound-none b)
+    left-refused d = rw (word-told w e, z, left-is d) (bound-none marks)
 
     module _ {right : ℕ} (d : s ≡ Next right) {u : Skipped} (y : skipped u ≡ skimExpression ws v right) where
       right-is : {o : Skipped} → u ≡ o → skimExpression ws v right ≡ skipped o
       right-is f = sym y ∙ ap skipped f
 
-      pub right-refused : {m p : ℕ} → u ≡ Refused m p → IsBound b (solveAt ws v (marked (b .marks)) at) b
+      pub right-refused : {m p : ℕ} → u ≡ Refused m p → IsBound marks (solveAt ws v (marked marks) at) false marks
       unfolding solveAt
-      right-refused f = rw (word-told w e, z, left-is d, right-is f) (bound-none b)
+      right-refused f = rw (word-told w e, z, left-is d, right-is f) (bound-none marks)
 
-      module _ {end : ℕ} (f : u ≡ Next end) {r : Bound} (g : IsBound b (solvedAt ws v (marked (b .marks)) (at + 1) right end) r) where
-        pub solve-first : b .some ≡ false → r .some ≡ true → IsBound b (solveAt ws v (marked (b .marks)) at) r
+      module _ {end : ℕ} (f : u ≡ Next end) {r : Bool} {marks′ : List Bool} (g : IsBound marks (solvedAt ws v (marked marks) (at + 1) right end) r marks′) where
+        pub solve-first : r ≡ true → IsBound marks (solveAt ws v (marked marks) at) true marks′
         unfolding solveAt
-        solve-first n q = rw (word-told w e, z, left-is d, right-is f) (first-some _ _ b r n g q)
+        solve-first q = rw (word-told w e, z, left-is d, right-is f) (first-some _ _ g q)
 
-        pub solve-second : {o : Bound} → r .some ≡ false → IsBound b (solvedAt ws v (marked (b .marks)) right (at + 1) right) o → IsBound b (solveAt ws v (marked (b .marks)) at) o
+        pub solve-second : {o : Bool} {marks″ : List Bool} → r ≡ false → IsBound marks′ (solvedAt ws v (marked marks′) right (at + 1) right) o marks″ → IsBound marks (solveAt ws v (marked marks) at) o marks″
         unfolding solveAt
-        solve-second {o} q i = rw (word-told w e, z, left-is d, right-is f) (first-none _ _ b r o g q i)
+        solve-second q i = rw (word-told w e, z, left-is d, right-is f) (first-none _ (λ isBound. solvedAt ws v isBound right (at + 1) right) g q i)
 
 pub skip-in : (ws : List ℕ) (at : ℕ) {s : Skipped} {p : ℕ} → s ≡ Next p → Skips ws at s → p ≤ length ws
 skip-in ws at e k = subst (Skips ws at) e k .in-words

@@ -9,7 +9,6 @@ use Rattle.semantics.specs.Net as net
 use Rattle.semantics.specs.Plan.{member}
 use Rattle.elements.specs.declared.element.Sort.{Sort}
 use Rattle.elements.specs.declared.element.Sort.the-variants.{Match, Solve, Range}
-use Rattle.elements.specs.declared.bind.Bound.{Bound}
 
 -- the element that semantics has for each case
 abbrev pub sorted : Sort → net.Sort
@@ -25,11 +24,7 @@ abbrev pub nonEmpty : List ℕ → Bool
 nonEmpty [] = false
 nonEmpty (n ∷ ns) = true
 
--- r has the marks of b and those of the variables ns, and says whether there is one
-pub record IsBound (b : Bound) (ns : List ℕ) (r : Bound) : Type 0 where
-  pub some : r .some ≡ (nonEmpty ns || b .some)
-  pub marks : (k : ℕ) → marked (r .marks) k ≡ (member ns k || marked (b .marks) k)
-
--- these marks, nothing being bound just now
-abbrev pub fresh : List Bool → Bound
-fresh marks = record { some = false; marks = marks }
+-- the marks after have those before and those of the variables ns, and r says whether there is one
+pub record IsBound (before : List Bool) (ns : List ℕ) (r : Bool) (after : List Bool) : Type 0 where
+  pub some : r ≡ nonEmpty ns
+  pub marks : (k : ℕ) → marked after k ≡ (member ns k || marked before k)

@@ -1,5 +1,4 @@
 // The variable that a solve binds, told from the words of its conjunct.
-use crate::bind::Bound;
 use crate::bind::bind_lone;
 use expression::read::Skipped;
 use expression::read::skip_expression;
@@ -8,7 +7,6 @@ use kinds::take::take;
 use word::fields::kind;
 use word::fields::payload;
 ghost use mathlib.Core.Path.{_≡_};
-ghost use mathlib.Core.Bool.{false};
 ghost use Prim.Native.Nat.{_≤_};
 ghost use lib.ListN.{length};
 ghost use Rattle.expression.proofs.Laws.{variablePasses};
@@ -16,8 +14,9 @@ ghost use Rattle.elements.specs.Binds.{allBound, solvedAt, solveAt};
 ghost use Rattle.elements.specs.Bound.{marked, IsBound};
 
 // Whether a word is not a variable, or a bound one.
-fn passes(marks: [bool; 8], w: u32) -> bool
-    ensures { λ r. ⌜ r ≡ variablePasses (marked marks) w ⌝ }
+fn passes(marks: &[bool], w: u32) -> bool
+    requires { ⌜ length (now marks) ≡ 8 ⌝ }
+    ensures { λ r. ⌜ r ≡ variablePasses (marked (now (marks .entry))) w ⌝ }
 {
     if kind(w) != 8 {
         return true;
@@ -30,9 +29,10 @@ fn passes(marks: [bool; 8], w: u32) -> bool
 }
 
 // Whether the words from one position to another have only bound variables.
-fn all_bound(words: &[u32], marks: [bool; 8], from: usize, to: usize) -> bool
+fn all_bound(words: &[u32], marks: &[bool], from: usize, to: usize) -> bool
+    requires { ⌜ length (now marks) ≡ 8 ⌝ }
     requires { ⌜ to ≤ length (now words) ⌝ }
-    ensures { λ r. ⌜ r ≡ allBound (now (words .entry)) (marked marks) from to ⌝ }
+    ensures { λ r. ⌜ r ≡ allBound (now (words .entry)) (marked (now (marks .entry))) from to ⌝ }
 {
     let mut at = from;
     while at < to {
@@ -45,43 +45,49 @@ fn all_bound(words: &[u32], marks: [bool; 8], from: usize, to: usize) -> bool
 }
 
 // Binds the unbound variable alone at a position where the words from one position to another have only bound variables.
-fn bind_side(words: &[u32], variables: usize, b: Bound, at: usize, from: usize, to: usize) -> Bound
+fn bind_side(
+    words: &[u32],
+    variables: usize,
+    marks: &mut [bool],
+    at: usize,
+    from: usize,
+    to: usize,
+) -> bool
     requires { ⌜ variables ≤ 8 ⌝ }
+    requires { ⌜ length (now marks) ≡ 8 ⌝ }
     requires { ⌜ to ≤ length (now words) ⌝ }
-    ensures { λ r. ⌜ IsBound b (solvedAt (now (words .entry)) variables (marked (b .marks)) at from to) r ⌝ }
+    ensures { λ r. ⌜ IsBound (now (marks .entry)) (solvedAt (now (words .entry)) variables (marked (now (marks .entry))) at from to) r (now (marks .exit)) ⌝ }
 {
-    let marks = b.marks;
     if all_bound(words, marks, from, to) {
-        return bind_lone(words, variables, b, at);
+        return bind_lone(words, variables, marks, at);
     }
-    b
+    false
 }
 
 // A solve of the conjunct at a position: an =, one side an unbound variable alone, the other with only bound ones; left looked at first.
-pub fn bind_solve(words: &[u32], variables: usize, b: Bound, at: usize) -> Bound
+pub fn bind_solve(words: &[u32], variables: usize, marks: &mut [bool], at: usize) -> bool
     requires { ⌜ variables ≤ 8 ⌝ }
-    requires { ⌜ b .some ≡ false ⌝ }
-    ensures { λ r. ⌜ IsBound b (solveAt (now (words .entry)) variables (marked (b .marks)) at) r ⌝ }
+    requires { ⌜ length (now marks) ≡ 8 ⌝ }
+    ensures { λ r. ⌜ IsBound (now (marks .entry)) (solveAt (now (words .entry)) variables (marked (now (marks .entry))) at) r (now (marks .exit)) ⌝ }
 {
     match take(words, at, 6) {
         Taken::Word(relation) => {
             if relation != 0 {
-                return b;
+                return false;
             }
             match skip_expression(words, variables, at + 1) {
                 Skipped::Next(right) => match skip_expression(words, variables, right) {
                     Skipped::Next(end) => {
-                        let first = bind_side(words, variables, b, at + 1, right, end);
-                        if first.some {
-                            return first;
+                        if bind_side(words, variables, marks, at + 1, right, end) {
+                            return true;
                         }
-                        bind_side(words, variables, b, right, at + 1, right)
+                        bind_side(words, variables, marks, right, at + 1, right)
                     }
-                    Skipped::Refused(_, _) => b,
+                    Skipped::Refused(_, _) => false,
                 },
-                Skipped::Refused(_, _) => b,
+                Skipped::Refused(_, _) => false,
             }
         }
-        Taken::Refused(_, _) => b,
+        Taken::Refused(_, _) => false,
     }
 }

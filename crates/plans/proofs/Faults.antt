@@ -27,7 +27,6 @@ use Rattle.kinds.specs.declared.take.Taken.{Taken}
 use Rattle.kinds.specs.declared.take.Taken.the-variants.{Word, Refused as TakeRefused}
 use Rattle.net.specs.declared.index.Parts.{Parts}
 use Rattle.net.specs.Index.{upTo, AreParts}
-use Rattle.elements.specs.declared.bind.Bound.{Bound}
 use Rattle.elements.specs.declared.element.Sort.{Sort}
 use Rattle.elements.specs.declared.element.Sort.the-variants.{Match, Solve, Range}
 use Rattle.plans.specs.declared.plan.Fault.{Fault}
@@ -37,7 +36,7 @@ use Rattle.plans.specs.Fitness.{bindsAt, elementOr, faultFrom, faultIn, 
 use Rattle.elements.specs.Binds.{unboundOf, matchAt, solveAt}
 use Rattle.plans.specs.Fitness.{planParts}
 use Rattle.plans.specs.Plan.{fault, IsReviewed, AreReviewed}
-use Rattle.elements.specs.Bound.{sorted, marked, nonEmpty, fresh, IsBound}
+use Rattle.elements.specs.Bound.{sorted, marked, nonEmpty, IsBound}
 use Rattle.elements.proofs.Binding.{bound-none}
 
 -- ── Variables that are not bound ──
@@ -84,23 +83,23 @@ module _ {v : ℕ} {marks : List Bool} {n : ℕ} (a : Bounded v marks n) where
 -- ── What an element binds ──
 
 module _ (ws widths : List ℕ) (v : ℕ) (inputs guard : List ℕ) (marks : List Bool) {s : Sort} where
-  pub match-past : {k : ℕ} → s ≡ Match k → length inputs ≤ k → IsBound (fresh marks) (bindsAt ws widths (planParts v inputs guard) (marked marks) (sorted s)) (fresh marks)
+  pub match-past : {k : ℕ} → s ≡ Match k → length inputs ≤ k → IsBound marks (bindsAt ws widths (planParts v inputs guard) (marked marks) (sorted s)) false marks
   unfolding bindsAt
-  match-past {k} e h = rw (e, past-elem inputs k h) (bound-none (fresh marks))
+  match-past {k} e h = rw (e, past-elem inputs k h) (bound-none marks)
 
-  pub match-there : {k : ℕ} {r : Bound} → s ≡ Match k → k < length inputs → IsBound (fresh marks) (matchAt ws widths v (marked marks) (getD inputs k 0)) r → IsBound (fresh marks) (bindsAt ws widths (planParts v inputs guard) (marked marks) (sorted s)) r
+  pub match-there : {k : ℕ} {r : Bool} {marks′ : List Bool} → s ≡ Match k → k < length inputs → IsBound marks (matchAt ws widths v (marked marks) (getD inputs k 0)) r marks′ → IsBound marks (bindsAt ws widths (planParts v inputs guard) (marked marks) (sorted s)) r marks′
   unfolding bindsAt
   match-there {k} e h x = rw (e, elem-number inputs k 0 h) x
 
-  pub solve-past : {k : ℕ} → s ≡ Solve k → length guard ≤ k → IsBound (fresh marks) (bindsAt ws widths (planParts v inputs guard) (marked marks) (sorted s)) (fresh marks)
+  pub solve-past : {k : ℕ} → s ≡ Solve k → length guard ≤ k → IsBound marks (bindsAt ws widths (planParts v inputs guard) (marked marks) (sorted s)) false marks
   unfolding bindsAt
-  solve-past {k} e h = rw (e, past-elem guard k h) (bound-none (fresh marks))
+  solve-past {k} e h = rw (e, past-elem guard k h) (bound-none marks)
 
-  pub solve-there : {k : ℕ} {r : Bound} → s ≡ Solve k → k < length guard → IsBound (fresh marks) (solveAt ws v (marked marks) (getD guard k 0)) r → IsBound (fresh marks) (bindsAt ws widths (planParts v inputs guard) (marked marks) (sorted s)) r
+  pub solve-there : {k : ℕ} {r : Bool} {marks′ : List Bool} → s ≡ Solve k → k < length guard → IsBound marks (solveAt ws v (marked marks) (getD guard k 0)) r marks′ → IsBound marks (bindsAt ws widths (planParts v inputs guard) (marked marks) (sorted s)) r marks′
   unfolding bindsAt
   solve-there {k} e h x = rw (e, elem-number guard k 0 h) x
 
-  pub range-there : {n : ℕ} {r : Bound} → s ≡ Range n → IsBound (fresh marks) (unboundOf v (marked marks) n) r → IsBound (fresh marks) (bindsAt ws widths (planParts v inputs guard) (marked marks) (sorted s)) r
+  pub range-there : {n : ℕ} {r : Bool} {marks′ : List Bool} → s ≡ Range n → IsBound marks (unboundOf v (marked marks) n) r marks′ → IsBound marks (bindsAt ws widths (planParts v inputs guard) (marked marks) (sorted s)) r marks′
   unfolding bindsAt
   range-there e x = rw e x
 
@@ -128,20 +127,20 @@ module _ (ws widths : List ℕ) (o : Outline) (ps : List ℕ) (at : ℕ) {marks 
   unfolding faultFrom
   plan-unread h x e = sym (plan-next h ∙ rw (element-none x e))
 
-  module _ (h : i < length ps) {t : Taken} {w : ℕ} (x : IsTaken ws (getD ps i 0) 0xA t) (e : t ≡ Word w) (s : Sort) (y : sorted s ≡ sortOf (bits 8 9 w) (bits 0 7 w)) {r : Bound} (z : IsBound (fresh marks) (bindsAt ws widths o (marked marks) (sorted s)) r) where
-    pub plan-unfit : r .some ≡ false → some (getD ps i 0) ≡ faultFrom ws widths o at (λ k. false) ps
+  module _ (h : i < length ps) {t : Taken} {w : ℕ} (x : IsTaken ws (getD ps i 0) 0xA t) (e : t ≡ Word w) (s : Sort) (y : sorted s ≡ sortOf (bits 8 9 w) (bits 0 7 w)) {r : Bool} {marks′ : List Bool} (z : IsBound marks (bindsAt ws widths o (marked marks) (sorted s)) r marks′) where
+    pub plan-unfit : r ≡ false → some (getD ps i 0) ≡ faultFrom ws widths o at (λ k. false) ps
     unfolding faultFrom
     plan-unfit f = sym (plan-next h ∙ rw (element-at x e, ← y) (by (bindsAt ws widths o (marked marks) (sorted s)) (sym (z .some) ∙ f)))
       where
-        by : (ns : List ℕ) → (nonEmpty ns || false) ≡ false → fitOr ns (getD ps i 0) (λ ns. faultFrom ws widths o at (λ k. member ns k || marked marks k) (drop (i + 1) ps)) ≡ some (getD ps i 0)
+        by : (ns : List ℕ) → nonEmpty ns ≡ false → fitOr ns (getD ps i 0) (λ ns. faultFrom ws widths o at (λ k. member ns k || marked marks k) (drop (i + 1) ps)) ≡ some (getD ps i 0)
         by [] q = refl
         by (n ∷ ns) q = false-true (sym q)
 
-    pub plan-turn : r .some ≡ true → Planned ws widths o ps at (r .marks) (i + 1)
+    pub plan-turn : r ≡ true → Planned ws widths o ps at marks′ (i + 1)
     unfolding faultFrom
     plan-turn f = record { inside = omega arith; same = plan-next h ∙ rw (element-at x e, ← y) (by (bindsAt ws widths o (marked marks) (sorted s)) (sym (z .some) ∙ f) (z .marks)) }
       where
-        by : (ns : List ℕ) → (nonEmpty ns || false) ≡ true → ((k : ℕ) → marked (r .marks) k ≡ (member ns k || marked marks k)) → fitOr ns (getD ps i 0) (λ ns. faultFrom ws widths o at (λ k. member ns k || marked marks k) (drop (i + 1) ps)) ≡ faultFrom ws widths o at (marked (r .marks)) (drop (i + 1) ps)
+        by : (ns : List ℕ) → nonEmpty ns ≡ true → ((k : ℕ) → marked marks′ k ≡ (member ns k || marked marks k)) → fitOr ns (getD ps i 0) (λ ns. faultFrom ws widths o at (λ k. member ns k || marked marks k) (drop (i + 1) ps)) ≡ faultFrom ws widths o at (marked marks′) (drop (i + 1) ps)
         by [] q g = false-true q
         by (n ∷ ns) q g = ap (λ (p : ℕ → Bool). faultFrom ws widths o at p (drop (i + 1) ps)) (fun-ext (λ k. sym (g k)))
 

@@ -1,5 +1,4 @@
 // Plans: the variables that an element binds, and where a plan is at fault.
-use elements::bind::Bound;
 use elements::bind::bind_match;
 use elements::bind::bind_variable;
 use elements::element::Element;
@@ -19,40 +18,37 @@ ghost use Rattle.semantics.specs.Plan.{everyBelow, firstOf};
 ghost use Rattle.plans.specs.Fitness.{bindsAt, faultFrom};
 ghost use Rattle.plans.specs.Fitness.{planParts};
 ghost use Rattle.plans.specs.Plan.{fault, IsReviewed, AreReviewed};
-ghost use Rattle.elements.specs.Bound.{marked, fresh, IsBound, sorted};
+ghost use Rattle.elements.specs.Bound.{marked, IsBound, sorted};
 
-// The variables that an element of a transition binds, whose input arcs and conjuncts begin at these positions.
+// Binds the variables that an element of a transition binds, whose input arcs and conjuncts begin at these positions; whether there is one.
 fn newly_bound(
     words: &[u32],
     widths: &[usize],
     variables: usize,
     inputs: &[usize],
     conjuncts: &[usize],
-    marks: [bool; 8],
+    marks: &mut [bool],
     e: Element,
-) -> Bound
+) -> bool
     requires { ⌜ variables ≤ 8 ⌝ }
-    ensures { λ r. ⌜ IsBound (fresh marks) (bindsAt (now (words .entry)) (now (widths .entry)) (planParts variables (now (inputs .entry)) (now (conjuncts .entry))) (marked marks) (sorted (e .sort))) r ⌝ }
+    requires { ⌜ length (now marks) ≡ 8 ⌝ }
+    ensures { λ r. ⌜ IsBound (now (marks .entry)) (bindsAt (now (words .entry)) (now (widths .entry)) (planParts variables (now (inputs .entry)) (now (conjuncts .entry))) (marked (now (marks .entry))) (sorted (e .sort))) r (now (marks .exit)) ⌝ }
 {
     let sort = e.sort;
-    let b = Bound {
-        some: false,
-        marks: marks,
-    };
     match sort {
         Sort::Match(k) => {
             if inputs.len() <= k {
-                return b;
+                return false;
             }
-            bind_match(words, widths, variables, b, inputs[k])
+            bind_match(words, widths, variables, marks, inputs[k])
         }
         Sort::Solve(k) => {
             if conjuncts.len() <= k {
-                return b;
+                return false;
             }
-            bind_solve(words, variables, b, conjuncts[k])
+            bind_solve(words, variables, marks, conjuncts[k])
         }
-        Sort::Range(n) => bind_variable(variables, b, n),
+        Sort::Range(n) => bind_variable(variables, marks, n),
     }
 }
 
@@ -63,9 +59,9 @@ pub enum Fault {
 }
 
 // A variable that is not bound is a fault at the transition.
-fn unbound(variables: usize, marks: [bool; 8], at: usize) -> Fault
-    requires { ⌜ variables ≤ 8 ⌝ }
-    ensures { λ r. ⌜ fault r ≡ cond (everyBelow variables (marked marks)) none (some at) ⌝ }
+fn unbound(variables: usize, marks: &[bool], at: usize) -> Fault
+    requires { ⌜ variables ≤ length (now marks) ⌝ }
+    ensures { λ r. ⌜ fault r ≡ cond (everyBelow variables (marked (now (marks .entry)))) none (some at) ⌝ }
 {
     let mut n = variables;
     while 0 < n {
@@ -99,14 +95,12 @@ fn plan_fault(
             return Fault::At(p);
         };
         let e = element_of(w);
-        let b = newly_bound(words, widths, variables, inputs, conjuncts, marks, e);
-        if !b.some {
+        if !newly_bound(words, widths, variables, inputs, conjuncts, &mut marks, e) {
             return Fault::At(p);
         }
-        marks = b.marks;
         i += 1;
     }
-    unbound(variables, marks, at)
+    unbound(variables, &marks, at)
 }
 
 // What was read of transitions: where they end or why they cannot be read, and the first fault of their plans.

@@ -13,5 +13,6 @@ bind-lone-spec =
     (λ c. search needs)
     (λ c κs. search needs)
     (λ c. search needs)
+    (λ c. search needs)
     (λ c. search binding)
     (λ c. search binding))

@@ -16,39 +16,15 @@ Inv-loop words marks from to at₀ at = allBound words (marked marks) at to ≡ 
 abbrev μ-loop : tie.MeasureT-loop
 μ-loop words marks from to at₀ at = to - at
 
--- src/solve.rt:38:5
 loop-holds : tie.Need-loop-holds Inv-loop μ-loop
 loop-holds c = refl
 
--- src/solve.rt:39:27
-mul-passes : tie.Need-mul-passes Inv-loop μ-loop
-mul-passes c = search needs
-
--- src/solve.rt:39:27
-shared-slice-read-passes : tie.Need-shared-slice-read-passes Inv-loop μ-loop
-shared-slice-read-passes c = search needs
-
--- src/solve.rt:39:13
-passes-requires : tie.Need-passes-requires Inv-loop μ-loop
-passes-requires c κs = search needs
-
--- src/solve.rt:40:13
 returns : tie.Need-returns Inv-loop μ-loop
 returns c = search (solving, not-true)
 
--- src/solve.rt:42:9
-add-at : tie.Need-add-at Inv-loop μ-loop
-add-at c = search needs
-
--- src/solve.rt:38:5
-loop-less : tie.Need-loop-less Inv-loop μ-loop
-loop-less c = omega arith
-
--- src/solve.rt:38:5
 loop-again : tie.Need-loop-again Inv-loop μ-loop
 loop-again c = search (solving, not-false)
 
--- src/solve.rt:33:1
 returns-2 : tie.Need-returns-2 Inv-loop μ-loop
 returns-2 c = search solving
 
@@ -59,11 +35,11 @@ all-bound-spec =
     Inv-loop
     μ-loop
     loop-holds
-    mul-passes
-    shared-slice-read-passes
-    passes-requires
+    (λ c. search needs)
+    (λ c. search needs)
+    (λ c κs. search needs)
     returns
-    add-at
-    loop-less
+    (λ c. search needs)
+    (λ c. omega arith)
     loop-again
     returns-2)

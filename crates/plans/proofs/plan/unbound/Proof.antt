@@ -6,19 +6,19 @@ use Rattle.plans.proofs.plan.unbound.Statement.{statement}
 use Rattle.plans.proofs.plan.unbound.Tie as tie
 
 abbrev Inv-loop : tie.InvT-loop
-Inv-loop variables at marks n₀ n = Bounded variables marks n
+Inv-loop variables marks at n₀ n = Bounded variables marks n
 
 abbrev μ-loop : tie.MeasureT-loop
-μ-loop variables at marks n₀ n = n
+μ-loop variables marks at n₀ n = n
 
 loop-holds : tie.Need-loop-holds Inv-loop μ-loop
 loop-holds c = bounded-start _ _
 
 returns : tie.Need-returns Inv-loop μ-loop
-returns c = bounded-stop (c .before .before .loop .inv) _ (omega arith) (not-true _ (c .if1 .taken))
+returns c = bounded-stop (c .before .before .before .loop .inv) _ (omega arith) (not-true _ (c .if1 .taken))
 
 loop-again : tie.Need-loop-again Inv-loop μ-loop
-loop-again c = bounded-turn (c .before .before .loop .inv) (omega arith) (not-false _ (c .if1 .left))
+loop-again c = bounded-turn (c .before .before .before .loop .inv) (omega arith) (not-false _ (c .if1 .left))
 
 returns-2 : tie.Need-returns-2 Inv-loop μ-loop
 returns-2 c = search faults
