@@ -1,10 +1,10 @@
 -- The rules of covering: the amounts of a key are summed one after the other, and each sum is held against the count that is found. What is
--- still ahead is what was ahead at first.
+-- still ahead is what was ahead at first. What is asked of a key depends on the key alone, so it holds of the same key again.
 use mathlib.Core.Path.{_≡_, refl, sym, _∙_}
-use Prim.Native.Nat.{ℕ, zero, suc, _+_, _*_, _≤_, _<_, _^_}
+use Prim.Native.Nat.{ℕ, zero, suc, _+_, _-_, _*_, _≤_, _<_, _^_}
 use mathlib.Core.Bool.{Bool, true, false, cond, not, _&&_}
 use mathlib.Core.List.{List, [], _∷_}
-use borrow.Author.Tests.{eq-eqb, ne-eqb, le-leb, lt-leb, not-true, not-false}
+use borrow.Author.Tests.{leb-true, eqb-true, eq-eqb, ne-eqb, le-leb, lt-leb, not-true, not-false}
 use native.Mathlib.Numerals.{add-one}
 use native.Mathlib.Omega.{arith}
 use lib.Dec.{eqb, leb}
@@ -15,7 +15,7 @@ use Rattle.semantics.specs.Reading.{read}
 use Rattle.semantics.specs.Net.{Place, rangesAt}
 use Rattle.semantics.specs.Marking.{Entry, readMarking, countsOf}
 use Rattle.semantics.specs.Enabling.{Flow, total, covers}
-use Rattle.semantics.proofs.Tests.{false-true}
+use Rattle.semantics.proofs.Tests.{false-true, and-left, and-right}
 use Rattle.semantics.proofs.Markings.{marking-proper}
 use Rattle.net.specs.Places.{placesAt}
 use Rattle.net.proofs.Placed.{width-at}
@@ -26,9 +26,9 @@ use Rattle.colours.proofs.Codes.{coloured-length}
 use Rattle.arcs.specs.declared.gather.Gathered.{Gathered}
 use Rattle.arcs.specs.Flow.{flowsAt}
 use Rattle.guards.specs.Guard.{guardAt}
-use Rattle.arcs.specs.Keys.{keyPlace, keyCode, widthOf, keyColour, keyFlows, KeyFits, IsGathered, sumOf}
+use Rattle.arcs.specs.Keys.{keyPlace, keyCode, widthOf, keyColour, keyFlow, keyFlows, KeyFits, IsGathered, sumOf}
 use Rattle.arcs.proofs.Keyed.{Ranged, keys-total, covers-gathered}
-use Rattle.occurrence.specs.Answers.{IsCovered, IsEnabledAt, IsTaken}
+use Rattle.occurrence.specs.Answers.{isRepeated, IsCovered, IsEnabledAt, IsTaken}
 
 -- ── Sums ──
 
@@ -69,14 +69,23 @@ module _ {keys amounts : List ℕ} {k j sum : ℕ} (a : Summing keys amounts k j
 abbrev held : List Entry → List Flow → Flow → Bool
 held es fs f = leb (total fs (f .place) (f .colour)) (countsOf es (f .place) (f .colour))
 
--- the i first keys are covered
+-- all that is taken of a key is covered: the amount of a single flow does not matter
+abbrev heldKey : List ℕ → List ℕ → List ℕ → List ℕ → List Entry → ℕ → Bool
+heldKey ws ps keys amounts es k = held es (keyFlows ws ps keys amounts) (keyFlow ws ps k 0)
+
+-- for the entries of a marking that was read, with the beginnings of its places
+abbrev WhenRead : List ℕ → List ℕ → List ℕ → List ℕ → (List Entry → Type 0) → Type 0
+WhenRead ws ps ms begins P = (places : List Place) → places ≡ placesAt ws ps → (es : List Entry) (next : ℕ) → markingRead places ms ≡ read es next → Begins es begins → P es
+
+-- the i first keys are covered, the last of them told by itself too
 pub record Covering (ws ps keys amounts ms begins : List ℕ) (i : ℕ) : Type 0 where
   pub inside : i ≤ length keys
-  pub same : (places : List Place) → places ≡ placesAt ws ps → (es : List Entry) (next : ℕ) → markingRead places ms ≡ read es next → Begins es begins → every (held es (keyFlows ws ps keys amounts)) (keyFlows ws ps (drop i keys) (drop i amounts)) ≡ covers (countsOf es) (keyFlows ws ps keys amounts)
+  pub same : WhenRead ws ps ms begins (λ es. every (held es (keyFlows ws ps keys amounts)) (keyFlows ws ps (drop i keys) (drop i amounts)) ≡ covers (countsOf es) (keyFlows ws ps keys amounts))
+  pub last : 1 ≤ i → WhenRead ws ps ms begins (λ es. heldKey ws ps keys amounts es (getD keys (i - 1) 0) ≡ true)
 
 pub covering-start : (ws ps keys amounts ms begins : List ℕ) → Covering ws ps keys amounts ms begins 0
 unfolding covers
-covering-start ws ps keys amounts ms begins = record { inside = omega arith; same = λ places e es next m b. refl }
+covering-start ws ps keys amounts ms begins = record { inside = omega arith; same = λ places e es next m b. refl; last = λ h. absurd (omega arith) }
 
 -- a key among others fits
 pub fits-in : {ws ps : List ℕ} (keys : List ℕ) (i : ℕ) → Every (KeyFits ws ps) keys → i < length keys → KeyFits ws ps (getD keys i 0)
@@ -93,19 +102,34 @@ module _ {ws ps keys amounts ms begins : List ℕ} {i : ℕ} (a : Covering ws ps
   unfolding every keyFlows
   covering-end h = record { covered = λ places e es next m b. let d : drop i keys ≡ [] = drop-of-length-le keys {i = i} h in rw d at (a .same places e es next m b) }
 
-  module _ (h : i < length keys) (l : length amounts ≡ length keys) (fit : Every (KeyFits ws ps) keys) {s : Spot} (x : IsSpot ms begins (keyPlace (getD keys i 0)) (keyColour ws ps (getD keys i 0)) s) {sum : ℕ} (y : sum ≡ sumOf keys amounts (getD keys i 0)) where
-    next-one : (places : List Place) → places ≡ placesAt ws ps → (es : List Entry) (next : ℕ) → markingRead places ms ≡ read es next → Begins es begins → (leb sum (s .count) && every (held es (keyFlows ws ps keys amounts)) (keyFlows ws ps (drop (i + 1) keys) (drop (i + 1) amounts))) ≡ covers (countsOf es) (keyFlows ws ps keys amounts)
+  module _ (h : i < length keys) (l : length amounts ≡ length keys) where
+    next-one : WhenRead ws ps ms begins (λ es. (heldKey ws ps keys amounts es (getD keys i 0) && every (held es (keyFlows ws ps keys amounts)) (keyFlows ws ps (drop (i + 1) keys) (drop (i + 1) amounts))) ≡ covers (countsOf es) (keyFlows ws ps keys amounts))
     unfolding every keyFlows
-    next-one places e es next m b =
-        let f = fits-in keys i fit h in
-        let c = x .found places es next m b (rw e (key-width f)) .1 in
-        rw (y, c, ← keys-total keys amounts fit f, add-one i) (rw (drop-cons keys i 0 h, drop-cons amounts i 0 (omega arith)) at (a .same places e es next m b))
+    next-one places e es next m b = rw (add-one i) (rw (drop-cons keys i 0 h, drop-cons amounts i 0 (omega arith)) at (a .same places e es next m b))
 
-    pub covering-short : s .count < sum → IsCovered ws ps keys amounts ms begins false
-    covering-short k = record { covered = λ places e es next m b. rw (lt-leb sum (s .count) k) at (next-one places e es next m b) }
+    -- where the next key is covered
+    covering-next : WhenRead ws ps ms begins (λ es. heldKey ws ps keys amounts es (getD keys i 0) ≡ true) → Covering ws ps keys amounts ms begins (i + 1)
+    covering-next k = record { inside = omega arith; same = λ places e es next m b. rw (k places e es next m b) at (next-one places e es next m b); last = λ z. let d : i + 1 - 1 ≡ i = omega arith in rw d k }
 
-    pub covering-turn : sum ≤ s .count → Covering ws ps keys amounts ms begins (i + 1)
-    covering-turn k = record { inside = omega arith; same = λ places e es next m b. rw (le-leb sum (s .count) k) at (next-one places e es next m b) }
+    -- where it is the one before it again
+    pub covering-again : isRepeated keys i ≡ true → Covering ws ps keys amounts ms begins (i + 1)
+    covering-again r =
+        let z = leb-true 1 i (and-left (leb 1 i) _ r) in
+        let d = eqb-true (getD keys (i - 1) 0) (getD keys i 0) (and-right (leb 1 i) _ r) in
+        covering-next (rw d at (a .last z))
+
+    module _ (fit : Every (KeyFits ws ps) keys) {s : Spot} (x : IsSpot ms begins (keyPlace (getD keys i 0)) (keyColour ws ps (getD keys i 0)) s) {sum : ℕ} (y : sum ≡ sumOf keys amounts (getD keys i 0)) where
+      found : WhenRead ws ps ms begins (λ es. heldKey ws ps keys amounts es (getD keys i 0) ≡ leb sum (s .count))
+      found places e es next m b =
+          let f = fits-in keys i fit h in
+          let c = x .found places es next m b (rw e (key-width f)) .1 in
+          rw (y, c, ← keys-total keys amounts fit f)
+
+      pub covering-short : s .count < sum → IsCovered ws ps keys amounts ms begins false
+      covering-short k = record { covered = λ places e es next m b. rw (found places e es next m b, lt-leb sum (s .count) k) at (next-one places e es next m b) }
+
+      pub covering-turn : sum ≤ s .count → Covering ws ps keys amounts ms begins (i + 1)
+      covering-turn k = covering-next (λ places e es next m b. found places e es next m b ∙ le-leb sum (s .count) k)
 
 -- ── Input arcs ──
 

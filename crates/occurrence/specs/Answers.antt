@@ -3,7 +3,9 @@
 use mathlib.Core.Path.{_≡_}
 use mathlib.Core.Bool.{Bool, true, _&&_}
 use mathlib.Core.List.{List}
-use Prim.Native.Nat.{ℕ}
+use Prim.Native.Nat.{ℕ, _-_}
+use lib.Dec.{leb, eqb}
+use lib.ListN.{getD}
 use Rattle.semantics.specs.Reading.{read}
 use Rattle.semantics.specs.Net.{Place}
 use Rattle.semantics.specs.Marking.{Entry, countsOf}
@@ -14,6 +16,10 @@ use Rattle.arcs.specs.Flow.{flowsAt}
 use Rattle.guards.specs.Guard.{guardAt}
 use Rattle.arcs.specs.declared.gather.Gathered.{Gathered}
 use Rattle.arcs.specs.Keys.{keyFlows, IsGathered}
+
+-- the key at an index is the one before it again
+abbrev pub isRepeated : List ℕ → ℕ → Bool
+isRepeated keys i = leb 1 i && eqb (getD keys (i - 1) 0) (getD keys i 0)
 
 -- the amounts of keys are covered
 pub record IsCovered (ws ps keys amounts ms begins : List ℕ) (r : Bool) : Type 0 where

@@ -9,7 +9,7 @@ ghost use Rattle.semantics.specs.Lists.{Every};
 ghost use Rattle.net.specs.Places.{PlacesFit};
 ghost use Rattle.counts.specs.Counts.{IsSpot};
 ghost use Rattle.arcs.specs.Keys.{keyPlace, widthOf, keyColour, KeyFits, sumOf};
-ghost use Rattle.occurrence.specs.Answers.{IsCovered};
+ghost use Rattle.occurrence.specs.Answers.{isRepeated, IsCovered};
 
 // The components of the place of a key.
 pub fn width_of(net: &[u32], places: &[usize], key: u64) -> usize
@@ -58,6 +58,17 @@ pub fn total_of(keys: &[u64], amounts: &[u32], key: u64) -> u64
     sum
 }
 
+// Whether the key at an index is the one before it again.
+fn repeats(keys: &[u64], i: usize) -> bool
+    requires { ⌜ i < length (now keys) ⌝ }
+    ensures { λ r. ⌜ r ≡ isRepeated (now (keys .entry)) i ⌝ }
+{
+    if i == 0 {
+        return false;
+    }
+    keys[i - 1] == keys[i]
+}
+
 // Whether the marking, with the beginnings of its places, covers the amounts of all keys.
 pub fn covers(
     net: &[u32],
@@ -75,12 +86,16 @@ pub fn covers(
 {
     let mut i = 0;
     while i < keys.len() {
-        let key = keys[i];
-        let spot = spot_of(net, places, marking, begins, key);
-        if (spot.count as u64) < total_of(keys, amounts, key) {
-            return false;
+        if repeats(keys, i) {
+            i += 1;
+        } else {
+            let key = keys[i];
+            let spot = spot_of(net, places, marking, begins, key);
+            if (spot.count as u64) < total_of(keys, amounts, key) {
+                return false;
+            }
+            i += 1;
         }
-        i += 1;
     }
     true
 }
