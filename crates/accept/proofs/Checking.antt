@@ -1,38 +1,42 @@
 -- The rules of accepting a net, and of check and split: from the positions read and the first fault of the plans. The net that was read is the one whose positions
 -- the index has, so its plans are at fault just where the words say so.
 use mathlib.Core.Path.{_≡_, refl, sym, ap, _∙_, subst}
-use Prim.Native.Nat.{ℕ, zero, suc, min, _≤_, _-_}
+use Prim.Native.Nat.{ℕ, zero, suc, min, _+_, _*_, _≤_, _<_, _-_}
 use mathlib.Core.Bool.{Bool, true, false, cond}
 use mathlib.Core.List.{List, [], _∷_, map}
+use mathlib.Core.Option.{some}
 use native.Mathlib.Omega.{arith}
 use borrow.Author.Tests.{le-ltb}
 use lib.Dec.{ltb}
-use lib.ListN.{length, take, drop, length-take, length-drop}
-use lib.Seq.{take-nil, take-all}
+use lib.ListN.{length, getD, getElem?, take, drop, length-map, length-take, length-drop}
+use lib.Seq.{take-nil, take-all, getD-take}
 use Rattle.semantics.specs.declared.Verdict.the-variants.{Accepted, Refused as CheckRefused}
 use Rattle.semantics.specs.Refusal.{wordsLeft}
 use Rattle.semantics.specs.Reading.{Reading, read, refused, then}
 use Rattle.semantics.specs.Net.{Transition, Net}
-use Rattle.semantics.specs.ReadNet.{readNet}
+use Rattle.semantics.specs.ReadNet.{readNet, readTransition}
 use Rattle.semantics.specs.Plan.{plansFault, withPlans, acceptFront, acceptNet}
 use Rattle.semantics.specs.Calls.{checkCall, splitCall}
 use Rattle.semantics.proofs.Tests.{false-true}
+use Rattle.semantics.proofs.Members.{at-length, every-elem, map-elem}
 use Rattle.semantics.proofs.Accepted.{read-sound, front-inside}
 use Rattle.expression.specs.declared.read.Skipped.{Skipped}
 use Rattle.expression.specs.declared.read.Skipped.the-variants.{Next, Refused}
 use Rattle.net.specs.declared.index.NetIndex.{NetIndex}
-use Rattle.net.specs.Skim.{changed, NetOutline, netOutline, width, skimNet}
+use Rattle.net.specs.Skim.{changed, outline, NetOutline, netOutline, width, skimNet}
+use Rattle.net.specs.Parted.{Parted, PartsKept}
 use Rattle.net.specs.Index.{upTo, outlinedNet, netRead}
 use Rattle.net.proofs.Skimming.{skim-net, widths-of}
 use Rattle.net.proofs.Loops.{forget-changed, changed-refused}
 use Rattle.net.proofs.Transitions.{skips}
 use Rattle.net.proofs.Nets.{seconds}
-use Rattle.net.proofs.Located.{net-transitions}
+use Rattle.net.proofs.Located.{At as Stands, net-transitions}
+use Rattle.net.proofs.Parted.{parted}
 use Rattle.plans.specs.declared.plan.Fault.{Fault}
 use Rattle.plans.specs.declared.plan.Fault.the-variants.{At, Nothing}
 use Rattle.plans.specs.Fitness.{faultAmong}
-use Rattle.plans.specs.Plan.{fault}
-use Rattle.accept.specs.Front.{acceptTo, unlessUnfit, settle, IsExtent, InWords, IsFront, splitInto}
+use Rattle.plans.specs.Plan.{fault, AreKept}
+use Rattle.accept.specs.Front.{acceptTo, unlessUnfit, settle, IsExtent, IsIndex, InWords, IsFront, splitInto}
 use Rattle.accept.specs.declared.accepted.Extent.{Extent}
 use Rattle.expression.specs.Skip.{forget, skipped}
 use Rattle.expression.proofs.Laws.{passed-read, passed-refused}
@@ -102,19 +106,47 @@ module _ (ws : List ℕ) (i : NetIndex) (x : netRead i ≡ skimNet ws 0) where
         by f true = refl
         by f false = settled-read f r (y ∙ net-fault-of f) e
 
-    pub settled-net : (least : ℕ) (r : Fault) (s : Skipped) → ((next : ℕ) → i .end ≡ Next next → fault r ≡ faultAmong ws (take (i .places) (i .widths)) (take (i .transitions) (i .«transitions_at»))) → s ≡ settle least (i .end) r → IsExtent ws least (i .«places_at») (i .widths) (i .«transitions_at») (record { end = s; places = i .places; transitions = i .transitions })
-    settled-net least r s y d = record { same = rw d (by (i .end) refl) }
+    -- the parts of the transitions that were kept are those of the net
+    net-kept : {first : ℕ} {table : List ℕ} → ((next : ℕ) → i .end ≡ Next next → AreKept ws (take (i .places) (i .widths)) (i .transitions) (i .«transitions_at») first table) → (net : Net) (whole : ℕ) → readNet ws 0 ≡ read net whole → PartsKept ws net first table
+    net-kept {first} {table} a net whole e = by (i .end) refl
+      where
+        by : (k : Skipped) → i .end ≡ k → PartsKept ws net first table
+        by (Refused n p) d =
+            let z : read net whole ≡ refused n p = sym e ∙ unread-net ws (sym x ∙ ap (λ (k : Skipped). upTo k (outlinedNet i)) d) in
+            false-true (cc)
+        by (Next next) d = record { each = row }
+          where
+            f : Found ws i next
+            f = found d
+
+            same : f .net ≡ net
+            same = let z : read (f .net) next ≡ read net whole = sym (f .reads) ∙ e in cc
+
+            row : (k : ℕ) (t : Transition) → getElem? (net .transitions) (first + k) ≡ some t → k * 32 + 64 ≤ length table → Parted (getD ws (t .position) 0) (take 32 (drop (k * 32) table)) (outline t)
+            row k t there room =
+                let l = at-length (net .transitions) (first + k) t there in
+                let begins : map (λ (t : Transition). t .position) (net .transitions) ≡ take (i .transitions) (i .«transitions_at») = ap (λ (o : Net). map (λ (t : Transition). t .position) (o .transitions)) (sym same) ∙ f .begins-are in
+                let widths : take (i .places) (i .widths) ≡ map width (net .places) = sym (f .widths-are) ∙ ap (λ (o : Net). map width (o .places)) same in
+                let m = sym (length-map (net .transitions) (λ (t : Transition). t .position)) ∙ ap length begins ∙ length-take (i .transitions) (i .«transitions_at») in
+                let h : first + k < i .transitions = omega (arith, l, m) in
+                let p : getD (i .«transitions_at») (first + k) 0 ≡ t .position = sym (getD-take (i .transitions) (i .«transitions_at») (first + k) 0 h) ∙ ap (λ (l : List ℕ). getD l (first + k) 0) (sym begins) ∙ map-elem (λ (t : Transition). t .position) (net .transitions) (first + k) t 0 there in
+                let o = a next d .each k h room in
+                let stands = every-elem (Stands (readTransition ws (net .places)) (λ (t : Transition). t .position)) (net .transitions) (first + k) t (net-transitions ws 0 net whole e) there in
+                parted ws (net .places) (t .position) (take 32 (drop (k * 32) table)) (rw (p, widths) at (o .are)) t (stands .next) (stands .reads)
+
+    pub settled-net : (least : ℕ) (r : Fault) (s : Skipped) {first : ℕ} {table : List ℕ} → ((next : ℕ) → i .end ≡ Next next → fault r ≡ faultAmong ws (take (i .places) (i .widths)) (take (i .transitions) (i .«transitions_at»))) → ((next : ℕ) → i .end ≡ Next next → AreKept ws (take (i .places) (i .widths)) (i .transitions) (i .«transitions_at») first table) → s ≡ settle least (i .end) r → IsExtent ws least (i .«places_at») (i .widths) (i .«transitions_at») first table (record { end = s; places = i .places; transitions = i .transitions })
+    settled-net least r s y a d = record { same = rw d (by (i .end) refl); kept = net-kept a }
       where
         by : (k : Skipped) → i .end ≡ k → upTo (settle least k r) (outlinedNet i) ≡ changed netOutline (acceptTo ws least)
         by (Next next) e = settled-next r e (y next e) least
         by (Refused n p) e = refused-net ws (sym x ∙ ap (λ (k : Skipped). upTo k (outlinedNet i)) e) least
 
 -- a net that cannot be read
-pub unread-extent : (ws : List ℕ) (least : ℕ) (places widths transitions : List ℕ) (r : Extent) {n p : ℕ} → skimNet ws 0 ≡ refused n p → r .end ≡ Refused n p → IsExtent ws least places widths transitions r
-unread-extent ws least places widths transitions r e d = record { same = rw d (refused-net ws e least) }
+pub unread-extent : (ws : List ℕ) (least : ℕ) (places widths transitions : List ℕ) (first : ℕ) (table : List ℕ) (r : Extent) {n p : ℕ} → skimNet ws 0 ≡ refused n p → r .end ≡ Refused n p → IsExtent ws least places widths transitions first table r
+unread-extent ws least places widths transitions first table r {n} {p} e d = record { same = rw d (refused-net ws e least); kept = λ net whole h. let z : read net whole ≡ refused n p = sym h ∙ unread-net ws e in false-true (cc) }
 
 -- its end alone
-pub extent-ends : (ws : List ℕ) (least : ℕ) (r : Extent) {places widths transitions : List ℕ} → IsExtent ws least places widths transitions r → skipped (r .end) ≡ forget (acceptTo ws least)
+pub extent-ends : (ws : List ℕ) (least : ℕ) (r : Extent) {places widths transitions : List ℕ} {first : ℕ} {table : List ℕ} → IsExtent ws least places widths transitions first table r → skipped (r .end) ≡ forget (acceptTo ws least)
 extent-ends ws least r x = skips (r .end) _ (x .same) ∙ forget-changed netOutline (acceptTo ws least)
 
 pub to-all : (ws : List ℕ) → acceptTo ws (length ws) ≡ acceptNet ws
@@ -128,6 +160,10 @@ to-front ws = by (readNet ws 0)
     by : (r : Reading Net) → then r (λ net next. cond (ltb next 0) (refused wordsLeft next) (withPlans (plansFault (net .transitions)) net next)) ≡ then r (λ net next. withPlans (plansFault (net .transitions)) net next)
     by (read net next) = rw (le-ltb next 0 (omega arith))
     by (refused n p) = refl
+
+-- the index of a net that stands alone
+pub whole-index : (ws : List ℕ) (i : NetIndex) {table : List ℕ} → IsExtent ws (length ws) (i .«places_at») (i .widths) (i .«transitions_at») 0 table (record { end = i .end; places = i .places; transitions = i .transitions }) → IsIndex ws table i
+whole-index ws i x = record { same = x .same ∙ ap (changed netOutline) (to-all ws); kept = x .kept }
 
 -- ── The calls ──
 

@@ -9,13 +9,11 @@ use plans::plan::Fault;
 use plans::plan::Reviewed;
 use plans::plan::read_plans;
 ghost use mathlib.Core.Path.{_≡_};
+ghost use Prim.Native.Nat.{_≤_};
 ghost use lib.ListN.{length};
-ghost use Rattle.semantics.specs.Plan.{acceptNet};
 ghost use Rattle.expression.specs.declared.read.Skipped.the-variants.{Refused};
 ghost use Rattle.expression.specs.Skip.{forget, skipped};
-ghost use Rattle.net.specs.Skim.{changed, netOutline};
-ghost use Rattle.net.specs.Index.{netRead};
-ghost use Rattle.accept.specs.Front.{settle, acceptTo, IsExtent};
+ghost use Rattle.accept.specs.Front.{settle, acceptTo, IsExtent, IsIndex};
 
 // No net, but a refusal.
 pub fn refused_index(n: u32, p: usize) -> NetIndex
@@ -71,18 +69,22 @@ fn unread(end: Skipped) -> Extent
 }
 
 // The net at the front of words, refused with 4 where it ends before the word `least`; where its places begin, their widths and where its
-// transitions begin are written to the three tables.
+// transitions begin are written to three tables, and where the parts of its transitions from `first` on begin to a fourth, 32 numbers for each; its last 32
+// numbers serve all others.
 pub fn accept_into(
     words: &[u32],
     least: usize,
     places_at: &mut [usize],
     widths: &mut [usize],
     transitions_at: &mut [usize],
+    first: usize,
+    table: &mut [usize],
 ) -> Extent
     requires { ⌜ length (now «places_at») ≡ 64 ⌝ }
     requires { ⌜ length (now widths) ≡ 64 ⌝ }
     requires { ⌜ length (now «transitions_at») ≡ 64 ⌝ }
-    ensures { λ r. ⌜ IsExtent (now (words .entry)) least (now («places_at» .exit)) (now (widths .exit)) (now («transitions_at» .exit)) r ⌝ }
+    requires { ⌜ 32 ≤ length (now table) ⌝ }
+    ensures { λ r. ⌜ IsExtent (now (words .entry)) least (now («places_at» .exit)) (now (widths .exit)) (now («transitions_at» .exit)) first (now (table .exit)) r ⌝ }
 {
     let head = take(words, 0, 1);
     let Taken::Word(w) = head else {
@@ -94,7 +96,15 @@ pub fn accept_into(
     let Skipped::Next(from) = end else {
         return unread(end);
     };
-    let plans = read_plans(words, &widths[..places], transitions_at, transitions, from);
+    let plans = read_plans(
+        words,
+        &widths[..places],
+        transitions_at,
+        transitions,
+        first,
+        table,
+        from,
+    );
     let end = settled(plans, least);
     Extent {
         end: end,
@@ -103,14 +113,23 @@ pub fn accept_into(
     }
 }
 
-// The net at the front of words, refused with 4 where it ends before the word `least`.
-fn accept(words: &[u32], least: usize) -> NetIndex
-    ensures { λ r. ⌜ netRead r ≡ changed netOutline (acceptTo (now (words .entry)) least) ⌝ }
+// The net that the words are; where the parts of its transitions begin is written to a table, 32 numbers for each.
+pub fn accept_net(words: &[u32], table: &mut [usize]) -> NetIndex
+    requires { ⌜ 32 ≤ length (now table) ⌝ }
+    ensures { λ r. ⌜ IsIndex (now (words .entry)) (now (table .exit)) r ⌝ }
 {
     let mut places = [0usize; 64];
     let mut widths = [0usize; 64];
     let mut transitions = [0usize; 64];
-    let net = accept_into(words, least, &mut places, &mut widths, &mut transitions);
+    let net = accept_into(
+        words,
+        words.len(),
+        &mut places,
+        &mut widths,
+        &mut transitions,
+        0,
+        table,
+    );
     let end = net.end;
     NetIndex {
         end: end,
@@ -122,13 +141,6 @@ fn accept(words: &[u32], least: usize) -> NetIndex
     }
 }
 
-// The net that the words are.
-pub fn accept_net(words: &[u32]) -> NetIndex
-    ensures { λ r. ⌜ netRead r ≡ changed netOutline (acceptNet (now (words .entry))) ⌝ }
-{
-    accept(words, words.len())
-}
-
 // Where the net at the front of words ends, or why it is refused, with 4 where it ends before the word `least`.
 pub fn accepted_end(words: &[u32], least: usize) -> Skipped
     ensures { λ r. ⌜ skipped r ≡ forget (acceptTo (now (words .entry)) least) ⌝ }
@@ -136,6 +148,15 @@ pub fn accepted_end(words: &[u32], least: usize) -> Skipped
     let mut places = [0usize; 64];
     let mut widths = [0usize; 64];
     let mut transitions = [0usize; 64];
-    let net = accept_into(words, least, &mut places, &mut widths, &mut transitions);
+    let mut table = [0usize; 32];
+    let net = accept_into(
+        words,
+        least,
+        &mut places,
+        &mut widths,
+        &mut transitions,
+        0,
+        &mut table,
+    );
     net.end
 }

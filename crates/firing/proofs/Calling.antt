@@ -2,7 +2,7 @@
 use mathlib.Core.Path.{_≡_, ap}
 use Prim.Native.Nat.{ℕ, _+_, _<_}
 use mathlib.Core.List.{List, [], _∷_}
-use lib.ListN.{length, take}
+use lib.ListN.{length, take, drop}
 use Rattle.semantics.specs.declared.Fired.{Fired}
 use Rattle.semantics.specs.declared.Fired.the-variants.{Refused as FireRefused}
 use Rattle.semantics.specs.Lists.{Every}
@@ -34,7 +34,7 @@ module _ {ws : List ℕ} {t : ℕ} {ms : List ℕ} {s : Index} (p : Prepared ws 
   fire-unbound buffer e = rw (p .same, unbound-refused p bs r x e)
 
   module _ {next : ℕ} (e : r ≡ Next next) where
-    pub fireable : FireableAt ws (take (s .places) (s .«places_at»)) (outlined s .guard) (outlined s .inputs) (outlined s .outputs) ms (s .begins) bs
+    fireable : FireableAt ws (take (s .places) (s .«places_at»)) (outlined s .guard) (outlined s .inputs) (outlined s .outputs) ms (s .begins) bs
     fireable = record {
       net = p .net;
       at = s .position;
@@ -55,6 +55,11 @@ module _ {ws : List ℕ} {t : ℕ} {ms : List ℕ} {s : Index} (p : Prepared ws 
       values = bound-lent p bs r x e;
     }
 
-    pub fire-answers : {f : Fired} {buffer after : List ℕ} → IsFiredAt ws (take (s .places) (s .«places_at»)) (outlined s .guard) (outlined s .inputs) (outlined s .outputs) ms (s .begins) bs buffer f after → fireEnd f after ≡ fireCall ws t ms bs buffer
-    unfolding fireCall fireable
-    fire-answers g = rw (p .same, bound-read p bs r x e .1) (g .fired fireable)
+    -- how many conjuncts and output arcs are lent is told as differences
+    module _ (g o : ℕ) (a : g ≡ s .transition .conjuncts) (b : o ≡ s .transition .outputs) where
+      pub fireable-lent : FireableAt ws (take (s .places) (s .«places_at»)) (take g (drop 16 (s .own))) (outlined s .inputs) (take o (drop 8 (s .own))) ms (s .begins) bs
+      fireable-lent = rw (a, b) fireable
+
+      pub fire-answers : {f : Fired} {buffer after : List ℕ} → IsFiredAt ws (take (s .places) (s .«places_at»)) (take g (drop 16 (s .own))) (outlined s .inputs) (take o (drop 8 (s .own))) ms (s .begins) bs buffer f after → fireEnd f after ≡ fireCall ws t ms bs buffer
+      unfolding fireCall fireable
+      fire-answers h = rw (p .same, bound-read p bs r x e .1) ((rw (a, b) at h) .fired fireable)

@@ -161,20 +161,14 @@ pub fn fire(
     ensures { λ r. ⌜ fireEnd r (now (next .exit)) ≡ fireCall (now (net .entry)) transition (now (marking .entry)) (now (binding .entry)) (now (next .entry)) ⌝ }
 {
     let mut places_at = [0usize; 64];
-    let mut ins = [0usize; 8];
-    let mut outs = [0usize; 8];
-    let mut guard = [0usize; 8];
-    let mut plan = [0usize; 8];
+    let mut own = [0usize; 64];
     let mut begins = [0usize; 65];
     let s = prepare(
         net,
         transition,
         marking,
         &mut places_at,
-        &mut ins,
-        &mut outs,
-        &mut guard,
-        &mut plan,
+        &mut own,
         &mut begins,
     );
     let end = s.end;
@@ -189,12 +183,13 @@ pub fn fire(
                     let conjuncts = t.conjuncts;
                     let inputs = t.inputs;
                     let outputs = t.outputs;
+                    let own = &own[..];
                     fire_arcs(
                         net,
                         &places_at[..places],
-                        &guard[..conjuncts],
-                        &ins[..inputs],
-                        &outs[..outputs],
+                        &own[16..16 + conjuncts],
+                        &own[..inputs],
+                        &own[8..8 + outputs],
                         marking,
                         &begins[..],
                         binding,

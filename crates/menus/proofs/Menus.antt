@@ -1,8 +1,9 @@
 -- The rules of the call: refused input is told as it is, and what was prepared is all that listing the bindings asks.
 use mathlib.Core.Path.{_≡_, refl, sym, ap, _∙_, subst}
 use mathlib.Core.List.{List}
-use Prim.Native.Nat.{ℕ}
-use lib.ListN.{length, take}
+use Prim.Native.Nat.{ℕ, _+_, _-_}
+use native.Mathlib.Omega.{arith}
+use lib.ListN.{length, take, drop}
 use Rattle.semantics.specs.declared.Listed.{Listed}
 use Rattle.semantics.specs.declared.Listed.the-variants.{Refused as MenuRefused}
 use Rattle.semantics.specs.Expression.{houseTable}
@@ -32,9 +33,13 @@ module _ {ws : List ℕ} {t : ℕ} {ms : List ℕ} {r : Index} (P : Prepared ws 
   unfolding sceneOf
   scene-is = rw (P .accepted, P .there, P .marked)
 
-  pub prepared-world : length (r .begins) ≡ 65 → World ws (take (r .places) (r .«places_at»)) (r .position) (r .transition .variables) (outlined r .inputs) (outlined r .guard) (outlined r .plan) ms (r .begins) (sceneOf ws (r .position) ms)
-  prepared-world l = subst (World ws (take (r .places) (r .«places_at»)) (r .position) (r .transition .variables) (outlined r .inputs) (outlined r .guard) (outlined r .plan) ms (r .begins)) (sym scene-is) world
+  -- how many conjuncts and elements are lent is told as a difference
+  pub prepared-world : length (r .begins) ≡ 65 → World ws (take (r .places) (r .«places_at»)) (r .position) (r .transition .variables) (outlined r .inputs) (take (16 + r .transition .conjuncts - 16) (drop 16 (r .own))) (take (24 + r .transition .elements - 24) (drop 24 (r .own))) ms (r .begins) (sceneOf ws (r .position) ms)
+  prepared-world l = rw (same 16 (r .transition .conjuncts), same 24 (r .transition .elements)) (subst (World ws (take (r .places) (r .«places_at»)) (r .position) (r .transition .variables) (outlined r .inputs) (outlined r .guard) (outlined r .plan) ms (r .begins)) (sym scene-is) world)
     where
+      same : (a n : ℕ) → a + n - a ≡ n
+      same a n = omega arith
+
       world : World ws (take (r .places) (r .«places_at»)) (r .position) (r .transition .variables) (outlined r .inputs) (outlined r .guard) (outlined r .plan) ms (r .begins) scene
       world = record {
         whole = P .whole;

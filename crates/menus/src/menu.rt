@@ -92,20 +92,14 @@ pub fn menu(net: &[u32], transition: u32, marking: &[u32], budget: u32, menu: &m
     ensures { λ r. ⌜ menuEnd r (now (menu .exit)) ≡ menuCall (now (net .entry)) transition (now (marking .entry)) budget (now (menu .entry)) ⌝ }
 {
     let mut places_at = [0usize; 64];
-    let mut ins = [0usize; 8];
-    let mut outs = [0usize; 8];
-    let mut guard = [0usize; 8];
-    let mut plan = [0usize; 8];
+    let mut own = [0usize; 64];
     let mut begins = [0usize; 65];
     let s = prepare(
         net,
         transition,
         marking,
         &mut places_at,
-        &mut ins,
-        &mut outs,
-        &mut guard,
-        &mut plan,
+        &mut own,
         &mut begins,
     );
     let end = s.end;
@@ -117,14 +111,15 @@ pub fn menu(net: &[u32], transition: u32, marking: &[u32], budget: u32, menu: &m
             let conjuncts = t.conjuncts;
             let inputs = t.inputs;
             let elements = t.elements;
+            let own = &own[..];
             list_bindings(
                 net,
                 &places_at[..places],
                 s.position,
                 t.variables,
-                &guard[..conjuncts],
-                &ins[..inputs],
-                &plan[..elements],
+                &own[16..16 + conjuncts],
+                &own[..inputs],
+                &own[24..24 + elements],
                 marking,
                 &begins[..],
                 budget,

@@ -5,3 +5,5 @@ pub mod Loops
 pub mod Structures
 pub mod Transitions
 pub mod Nets
+pub mod Tables
+pub mod Parted

@@ -194,9 +194,9 @@ module _ (ws : List ℕ) (i : NetIndex) (x : netRead i ≡ skimNet ws 0) (full :
   index-fits = rw index-positions (net-fits ws 0 net next e)
 
 -- where the parts of a transition begin that was read
-pub parts-outline : (ws : List ℕ) (places : List Place) (at : ℕ) (ins outs guard plan : List ℕ) {r : Parts} → AreParts ws (map width places) at ins outs guard plan r → (t : Transition) (next : ℕ) → readTransition ws places at ≡ read t next → outlined r ins outs guard plan ≡ outline t
-parts-outline ws places at ins outs guard plan {r} x t next e = by (r .end) (x .same ∙ sym (skim-transition ws places at) ∙ ap (changed outline) e)
+pub parts-outline : (ws : List ℕ) (places : List Place) (at : ℕ) (own : List ℕ) {r : Parts} → AreParts ws (map width places) at own r → (t : Transition) (next : ℕ) → readTransition ws places at ≡ read t next → outlined r own ≡ outline t
+parts-outline ws places at own {r} x t next e = by (r .end) (x .same ∙ sym (skim-transition ws places at) ∙ ap (changed outline) e)
   where
-    by : (end : Skipped) → upTo end (outlined r ins outs guard plan) ≡ read (outline t) next → outlined r ins outs guard plan ≡ outline t
+    by : (end : Skipped) → upTo end (outlined r own) ≡ read (outline t) next → outlined r own ≡ outline t
     by (Next n) h = cc
     by (Refused n p) h = false-true (cc)

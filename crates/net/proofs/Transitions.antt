@@ -17,7 +17,7 @@ use Rattle.kinds.specs.declared.take.Taken.the-variants.{Word, Refused as TakeR
 use Rattle.net.specs.declared.index.Parts.{Parts}
 use Rattle.kinds.specs.Taken.{fitsKind, Takes, IsTaken}
 use Rattle.net.specs.Skim.{starts, skimRange, skimOne, Outline, skimTransition}
-use Rattle.net.specs.Index.{refusalOf, upTo, noParts, AreParts}
+use Rattle.net.specs.Index.{refusalOf, upTo, noParts, PartsRead}
 use Rattle.net.proofs.Structures.{word-refused, word-taken, next-fits}
 
 -- ── Several structures of a reading, by the answer of the code ──
@@ -86,8 +86,8 @@ module _ (ws widths : List ℕ) (at : ℕ) {t : Taken} (w : IsTaken ws at 4 t) w
   unfolding skimTransition
   transition-refused o e f d = upTo-refused o (rw (word-refused w e)) (d ∙ f ∙ ap refusalOf e)
 
-  pub parts-refused : (ins outs guard plan : List ℕ) {m s : ℕ} {f : Skipped} {r : Parts} → t ≡ TakeRefused m s → f ≡ refusalOf t → r ≡ noParts f → AreParts ws widths at ins outs guard plan r
-  parts-refused ins outs guard plan e f d = rw d (record { same = transition-refused _ e f refl; few-variables = omega arith; few-inputs = omega arith; few-outputs = omega arith; few-conjuncts = omega arith; few-elements = omega arith })
+  pub parts-refused : (table : List ℕ) (base : ℕ) {m s : ℕ} {f : Skipped} {r : Parts} → t ≡ TakeRefused m s → f ≡ refusalOf t → r ≡ noParts f → PartsRead ws widths at table base r table
+  parts-refused table base e f d = record { before = record { same = refl }; parts = rw d (record { same = transition-refused _ e f refl; few-variables = omega arith; few-inputs = omega arith; few-outputs = omega arith; few-conjuncts = omega arith; few-elements = omega arith }) }
 
   module _ {p : ℕ} (e : t ≡ Word p) where
     ranges-left : skimTransition ws widths at ≡ rangesLeft ws widths p (at + 1)

@@ -1,3 +1,4 @@
 pub mod Skim
 pub mod Index
 pub mod Places
+pub mod Parted

@@ -5,11 +5,11 @@ use expression::read::Skipped;
 use kinds::take::Taken;
 use kinds::take::take;
 ghost use mathlib.Core.Path.{_≡_};
-ghost use Prim.Native.Nat.{_≤_};
+ghost use Prim.Native.Nat.{_≤_, _+_};
 ghost use mathlib.Core.List.{zip};
 ghost use lib.ListN.{length, take};
 ghost use Rattle.net.specs.Skim.{skimPlace, skimPlaces};
-ghost use Rattle.net.specs.Index.{refusalOf, upTo, noParts, AreParts, placeRead};
+ghost use Rattle.net.specs.Index.{refusalOf, upTo, noParts, partsOf, PartsRead, placeRead};
 
 // A transition whose parts stand in tables: where it ends or why it cannot be read, and how many of each part it has.
 pub struct Parts {
@@ -35,37 +35,49 @@ fn no_parts(end: Skipped) -> Parts
     }
 }
 
-// The transition at a position; `widths` has the number of components of each place. Where its parts begin is written to the front of four
-// tables.
+// How many parts of each kind a TRANSITION word tells.
+pub fn parts_of(end: Skipped, head: u32) -> Parts
+    ensures { λ r. ⌜ r ≡ partsOf end head ⌝ }
+{
+    Parts {
+        end: end,
+        variables: (head % 16) as usize,
+        inputs: (head / 16 % 16) as usize,
+        outputs: (head / 256 % 16) as usize,
+        conjuncts: (head / 4096 % 16) as usize,
+        elements: (head / 65536 % 16) as usize,
+    }
+}
+
+// The transition at a position; `widths` has the number of components of each place. Where its parts begin is written to 32 numbers of a table from one on:
+// eight for its input arcs, eight for its output arcs, eight for its conjuncts and eight for its elements.
 pub fn read_parts(
     words: &[u32],
     widths: &[usize],
-    ins: &mut [usize],
-    outs: &mut [usize],
-    guard: &mut [usize],
-    plan: &mut [usize],
+    table: &mut [usize],
+    base: usize,
     at: usize,
 ) -> Parts
-    requires { ⌜ (length (now ins) ≡ 8) × (length (now outs) ≡ 8) × (length (now guard) ≡ 8) × (length (now plan) ≡ 8) ⌝ }
-    ensures { λ r. ⌜ AreParts (now (words .entry)) (now (widths .entry)) at (now (ins .exit)) (now (outs .exit)) (now (guard .exit)) (now (plan .exit)) r ⌝ }
+    requires { ⌜ base + 32 ≤ length (now table) ⌝ }
+    ensures { λ r. ⌜ PartsRead (now (words .entry)) (now (widths .entry)) at (now (table .entry)) base r (now (table .exit)) ⌝ }
 {
     let head = take(words, at, 4);
     let Taken::Word(w) = head else {
         return no_parts(refusal_of(head));
     };
-    let variables = (w % 16) as usize;
+    let v = (w % 16) as usize;
     let inputs = (w / 16 % 16) as usize;
     let outputs = (w / 256 % 16) as usize;
     let conjuncts = (w / 4096 % 16) as usize;
     let elements = (w / 65536 % 16) as usize;
-    let ranges_end = skip_ranges(words, variables, at + 1);
-    let ins_end = skip_several(words, widths, variables, 5, ins, inputs, ranges_end);
-    let outs_end = skip_several(words, widths, variables, 5, outs, outputs, ins_end);
-    let guard_end = skip_several(words, widths, variables, 6, guard, conjuncts, outs_end);
-    let end = skip_several(words, widths, variables, 10, plan, elements, guard_end);
+    let ranges_end = skip_ranges(words, v, at + 1);
+    let ins_end = skip_several(words, widths, v, 5, table, base, inputs, ranges_end);
+    let outs_end = skip_several(words, widths, v, 5, table, base + 8, outputs, ins_end);
+    let guard_end = skip_several(words, widths, v, 6, table, base + 16, conjuncts, outs_end);
+    let end = skip_several(words, widths, v, 10, table, base + 24, elements, guard_end);
     Parts {
         end: end,
-        variables: variables,
+        variables: v,
         inputs: inputs,
         outputs: outputs,
         conjuncts: conjuncts,

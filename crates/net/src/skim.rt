@@ -4,12 +4,11 @@ use expression::read::skip_expression;
 use kinds::take::Taken;
 use kinds::take::take;
 ghost use mathlib.Core.Path.{_≡_};
-ghost use Prim.Native.Nat.{_≤_};
-ghost use lib.ListN.{length, take};
-ghost use Rattle.semantics.specs.Reading.{then};
+ghost use Prim.Native.Nat.{_≤_, _+_};
+ghost use lib.ListN.{length};
 ghost use Rattle.expression.specs.Skip.{forget, skipped};
 ghost use Rattle.net.specs.Skim.{starts, skimRange, skimExpression, skimArc, skimConjunct, skimOne};
-ghost use Rattle.net.specs.Index.{upTo};
+ghost use Rattle.net.specs.Index.{AreStarted};
 
 // So many expressions.
 fn skip_expressions(words: &[u32], variables: usize, n: usize, at: usize) -> Skipped
@@ -77,18 +76,19 @@ fn skip_one(words: &[u32], widths: &[usize], variables: usize, k: u32, at: usize
     }
 }
 
-// n structures of one kind from the end of what stands before them, or its refusal; where each begins is written to the front of `begins`.
+// n structures of one kind from the end of what stands before them, or its refusal; where each begins is written to a table from a number on.
 pub fn skip_several(
     words: &[u32],
     widths: &[usize],
     variables: usize,
     k: u32,
-    begins: &mut [usize],
+    table: &mut [usize],
+    base: usize,
     n: usize,
     from: Skipped,
 ) -> Skipped
-    requires { ⌜ n ≤ length (now begins) ⌝ }
-    ensures { λ r. ⌜ upTo r (take n (now (begins .exit))) ≡ then (skipped from) (λ u at. starts n (skimOne (now (words .entry)) (now (widths .entry)) variables k) at) ⌝ }
+    requires { ⌜ base + n ≤ length (now table) ⌝ }
+    ensures { λ r. ⌜ AreStarted n (skimOne (now (words .entry)) (now (widths .entry)) variables k) from (now (table .entry)) base r (now (table .exit)) ⌝ }
 {
     let Skipped::Next(at) = from else {
         return from;
@@ -96,7 +96,7 @@ pub fn skip_several(
     let mut i = 0;
     let mut next = at;
     while i < n {
-        begins[i] = next;
+        table[base + i] = next;
         match skip_one(words, widths, variables, k, next) {
             Skipped::Next(p) => {
                 next = p;

@@ -1,4 +1,4 @@
-// Numbers that may be missing: the operators, the house table of loads and the relations. Rests on fields.
+// Numbers that may be missing: the operators, the house table of loads and the relations. Rests on word::fields.
 use word::fields::modulo;
 ghost use mathlib.Core.Path.{_≡_};
 ghost use mathlib.Core.Option.{bind};

@@ -15,12 +15,12 @@ use Rattle.semantics.specs.Enabling.{Firing, moved, stopped, isEnabled}
 use Rattle.semantics.specs.Run.{fire}
 use Rattle.semantics.specs.Calls.{FireEnd, firedBy}
 use Rattle.semantics.proofs.Tests.{false-true}
+use Rattle.net.specs.Parted.{variablesIn, inputsIn, outputsIn}
 use Rattle.steps.specs.Steps.{fireEnd}
 use Rattle.firing.specs.Fire.{FireableAt, IsFiredEnabled}
 use Rattle.firing.proofs.Firing.{enabled-at}
 use Rattle.patch.specs.Patch.{written}
 use Rattle.picks.specs.declared.pick.Picked.{Picked}
-use Rattle.parts.specs.Parts.{variablesIn, inputsIn, outputsIn}
 use Rattle.arrivals.specs.World.{World}
 use Rattle.search.specs.Scene.{sceneOf}
 use Rattle.picks.specs.Pick.{Lists, Leaves, Fires, row, FiresRow, IsFiredAt}

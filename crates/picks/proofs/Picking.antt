@@ -6,7 +6,7 @@ use mathlib.Core.Bool.{true}
 use mathlib.Core.Option.{Option, some}
 use Prim.Native.Nat.{ℕ, zero, suc, _+_, _*_, _-_, _/_, _%_, _≤_, _<_}
 use native.Mathlib.Omega.{arith}
-use native.Mathlib.Nat.{suc-mul, zero-mul}
+use native.Mathlib.Nat.{suc-mul, zero-mul, zero-add}
 use lib.IntN.{ℤ}
 use lib.Signed.{mag}
 use lib.ListN.{length, getD, getElem?, take, drop, length-map, length-append, length-take, length-drop}
@@ -34,8 +34,10 @@ use Rattle.semantics.proofs.Enabling.{enabled-complete}
 use Rattle.semantics.proofs.Menu.{menu-members}
 use Rattle.net.specs.Skim.{outline}
 use Rattle.net.specs.Places.{placesAt}
+use Rattle.net.specs.Parted.{variablesIn, inputsIn, outputsIn, guardIn, planIn, Parted}
 use Rattle.net.proofs.Located.{At, net-transitions}
 use Rattle.net.proofs.Placed.{variables-placed}
+use Rattle.net.proofs.Parted.{head-inside}
 use Rattle.marking.specs.Marked.{markingRead, Begins, Accepted, Indexed}
 use Rattle.semantics.proofs.Partial.{range-length}
 use Rattle.marking.proofs.Bound.{ranged-small}
@@ -47,9 +49,7 @@ use Rattle.search.specs.Scene.{netOf, countsIn, sceneOf}
 use Rattle.search.specs.Search.{menuEnd}
 use Rattle.menus.specs.Menu.{IsListed}
 use Rattle.picks.specs.declared.pick.Picked.{Picked}
-use Rattle.parts.specs.Parts.{variablesIn, inputsIn, outputsIn, guardIn, planIn, Parted}
 use Rattle.picks.specs.Pick.{Leaves, row, FiresRow, Lists, IsFiredAt, Pickable, IsPicked}
-use Rattle.parts.proofs.Parting.{head-inside}
 use Rattle.picks.proofs.Firing.{part-is}
 
 -- ── What was listed ──
@@ -142,11 +142,15 @@ module _ {ws ps transitions parts buffer : List ℕ} {size w : ℕ} (P : Pickabl
   pub pick-inside : getD transitions (pickTransition w) 0 < length ws
   pick-inside = head-inside ws (net .places) (getD transitions (pickTransition w) 0) (chosen .0) (stands .next) reads
 
+  -- the positions of its parts are not the last 32 of the table
+  is-kept : pickTransition w * 32 + 64 ≤ length parts
+  is-kept = let f = accepted-sound ws net (P .known .whole) (P .known .accepted) .few-transitions in let h = P .there in let l = P .known .long in omega arith
+
   pub pick-room : pickTransition w * 32 + 32 ≤ length parts
-  pick-room = let f = accepted-sound ws net (P .known .whole) (P .known .accepted) .few-transitions in let h = P .there in let l = P .kept .long in omega arith
+  pick-room = let r = is-kept in omega arith
 
   parted : Parted head own (outline (chosen .0))
-  parted = subst (λ (q : ℕ). Parted (getD ws q 0) own (outline (chosen .0))) (sym at-position) (rw (part-is (pickTransition w * 32) 32 parts) (P .kept .each (pickTransition w) (chosen .0) (chosen .1)))
+  parted = subst (λ (q : ℕ). Parted (getD ws q 0) own (outline (chosen .0))) (sym at-position) (rw (part-is (pickTransition w * 32) 32 parts) (P .known .kept .each (pickTransition w) (chosen .0) (rw (zero-add (pickTransition w)) (chosen .1)) is-kept))
 
   own-long : length own ≡ 32
   own-long = rw (part-is (pickTransition w * 32) 32 parts) (let l = length-drop (pickTransition w * 32) parts in let r = pick-room in length-take-le 32 (drop (pickTransition w * 32) parts) (omega arith))

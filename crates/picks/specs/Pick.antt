@@ -1,5 +1,5 @@
 -- What a pick leaves: the marking after it at the front of the buffer, or the marking before it and the refusal.
--- Rests on semantics/specs/Run, firing/specs/Fire, starts/specs/Known and parts/specs/Parts.
+-- Rests on semantics/specs/Run, firing/specs/Fire, starts/specs/Known and net/specs/Parted.
 use mathlib.Core.Path.{_≡_}
 use mathlib.Core.Bool.{true}
 use mathlib.Core.List.{List}
@@ -14,13 +14,13 @@ use Rattle.semantics.specs.Enabling.{Firing, moved, stopped, isEnabled}
 use Rattle.semantics.specs.Run.{fire, pick}
 use Rattle.semantics.specs.Calls.{limits}
 use Rattle.net.specs.Places.{PlacesFit}
+use Rattle.net.specs.Parted.{variablesIn, inputsIn, outputsIn, guardIn, planIn, FewParts}
 use Rattle.marking.specs.Marked.{markingRead}
 use Rattle.firing.specs.Fire.{FireableAt}
 use Rattle.arrivals.specs.World.{World}
 use Rattle.search.specs.Scene.{netOf, countsIn, sceneOf}
 use Rattle.picks.specs.declared.pick.Picked.{Picked}
 use Rattle.starts.specs.Known.{NetKnown}
-use Rattle.parts.specs.Parts.{variablesIn, inputsIn, outputsIn, guardIn, planIn, FewParts, PartsKept}
 
 -- the marking after a firing at the front of the buffer, or the one before it and the refusal
 abbrev pub Leaves : Net → List ℕ → ℕ → Picked → List ℕ → Firing → Type 0
@@ -61,9 +61,7 @@ pub record Lists (ws ps : List ℕ) (position head : ℕ) (own ms begins : List 
 
 -- a pick of one of the net's transitions, whose parts were kept, and an accepted marking at the front of a buffer
 pub record Pickable (ws ps transitions parts buffer : List ℕ) (size w : ℕ) : Type 0 where
-  pub widths : List ℕ
-  pub known : NetKnown ws ps widths transitions (netOf (acceptNet ws))
-  pub kept : PartsKept ws (netOf (acceptNet ws)) parts
+  pub known : NetKnown ws ps transitions parts (netOf (acceptNet ws))
   pub inside : size ≤ length buffer
   pub entries : List Entry
   pub end : ℕ

@@ -6,7 +6,7 @@ use patch::words::copy_words;
 use semantics::Fired;
 use semantics::Listed;
 use word::size::at_most;
-ghost use Rattle.parts.specs.Parts.{variablesIn, inputsIn, outputsIn};
+ghost use Rattle.net.specs.Parted.{variablesIn, inputsIn, outputsIn};
 ghost use Rattle.menus.specs.Menu.{IsListed};
 ghost use Rattle.picks.specs.Pick.{Pickable, IsPicked, Lists, Fires, FiresRow, row, IsFiredAt};
 

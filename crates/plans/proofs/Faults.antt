@@ -1,20 +1,25 @@
 -- The rules of faults: where a plan is at fault, from what its elements bind. Each rule is one arm of the code; in the loops what is still
 -- ahead is what was ahead at first.
 use mathlib.Core.Path.{_≡_, refl, sym, ap, _∙_, fun-ext}
-use Prim.Native.Nat.{ℕ, zero, suc, _+_, _-_, _≤_, _<_}
+use Prim.Native.Nat.{ℕ, zero, suc, _+_, _-_, _*_, _/_, _≤_, _<_}
 use mathlib.Core.Bool.{Bool, true, false, cond, _||_}
 use mathlib.Core.List.{List, [], _∷_, _++_}
 use mathlib.Core.Option.{Option, none, some}
 use native.Mathlib.Numerals.{add-one}
 use native.Mathlib.Omega.{arith}
 use borrow.Author.Needs.{needs}
-use lib.ListN.{length, getD, drop, take, set, replicate, drop-of-length-le}
-use lib.Seq.{drop-cons}
+use lib.ListN.{length, getD, drop, take, set, replicate, length-drop, drop-of-length-le}
+use lib.Seq.{length-take-le, drop-cons, getD-set-same, getD-set-other}
 use Rattle.semantics.specs.Plan.{member, everyBelow, fitOr, firstOf as firstFault}
 use Rattle.semantics.specs.Net as net
 use Rattle.semantics.specs.Reading.{read, refused}
 use Rattle.semantics.specs.ReadNet.{readElement, sortOf}
-use Rattle.semantics.proofs.Tests.{false-true}
+use mathlib.Core.Logic.{_⊎_, inl, inr}
+use borrow.Author.Tests.{ltb-true, ltb-false}
+use lib.Dec.{ltb}
+use Rattle.semantics.proofs.Tests.{either, false-true}
+use Rattle.expression.proofs.Laws.{next-refused}
+use Rattle.net.proofs.Tables.{part-same}
 use Rattle.semantics.proofs.Members.{past-elem, elem-number, replicate-same}
 use Rattle.expression.specs.declared.read.Skipped.{Skipped}
 use Rattle.expression.specs.declared.read.Skipped.the-variants.{Next, Refused}
@@ -26,7 +31,7 @@ use Rattle.net.proofs.Transitions.{skips}
 use Rattle.kinds.specs.declared.take.Taken.{Taken}
 use Rattle.kinds.specs.declared.take.Taken.the-variants.{Word, Refused as TakeRefused}
 use Rattle.net.specs.declared.index.Parts.{Parts}
-use Rattle.net.specs.Index.{upTo, AreParts}
+use Rattle.net.specs.Index.{upTo, outlined, PartsRead}
 use Rattle.elements.specs.declared.element.Sort.{Sort}
 use Rattle.elements.specs.declared.element.Sort.the-variants.{Match, Solve, Range}
 use Rattle.plans.specs.declared.plan.Fault.{Fault}
@@ -35,7 +40,7 @@ use Rattle.plans.specs.declared.plan.Reviewed.{Reviewed}
 use Rattle.plans.specs.Fitness.{bindsAt, elementOr, faultFrom, faultIn, transitionFault, faultAmong}
 use Rattle.elements.specs.Binds.{unboundOf, matchAt, solveAt}
 use Rattle.plans.specs.Fitness.{planParts}
-use Rattle.plans.specs.Plan.{fault, IsReviewed, AreReviewed}
+use Rattle.plans.specs.Plan.{fault, OwnParts, IsReviewed, IsBase, AreKept, AreReviewed}
 use Rattle.elements.specs.Bound.{sorted, marked, nonEmpty, IsBound}
 use Rattle.elements.proofs.Binding.{bound-none}
 
@@ -168,22 +173,30 @@ parts-fault ws widths o at isBound (p ∷ ps) =
     same (net.solve k) = refl
     same (net.range n) = refl
 
--- a transition whose parts stand in tables
-module _ (ws widths : List ℕ) (at : ℕ) {ins outs guard plan : List ℕ} (t : Parts) (x : AreParts ws widths at ins outs guard plan t) where
-  outlined : Outline
-  outlined = record { variables = t .variables; inputs = take (t .inputs) ins; outputs = take (t .outputs) outs; guard = take (t .conjuncts) guard; plan = take (t .elements) plan }
+-- a transition whose parts stand in a table
+module _ (ws widths : List ℕ) (at : ℕ) {table : List ℕ} {base : ℕ} (t : Parts) {after : List ℕ} (x : PartsRead ws widths at table base t after) where
+  abbrev own : List ℕ
+  own = take 32 (drop base after)
 
-  read-to : {end : Skipped} → t .end ≡ end → skimTransition ws widths at ≡ upTo end outlined
-  unfolding outlined
-  read-to e = sym (x .same) ∙ ap (λ (k : Skipped). upTo k outlined) e
+  read-to : {end : Skipped} → t .end ≡ end → skimTransition ws widths at ≡ upTo end (outlined t own)
+  read-to e = sym (x .parts .same) ∙ ap (λ (k : Skipped). upTo k (outlined t own)) e
 
-  pub unread-plan : {n p : ℕ} → t .end ≡ Refused n p → IsReviewed ws widths at (record { end = t .end; fault = Nothing })
-  unfolding outlined
-  unread-plan e = record { ends = skips (t .end) outlined (x .same); faults = sym (ap (faultIn ws widths at) (read-to e)) }
+  abbrev reviewed : Fault → Reviewed
+  reviewed f = record { end = t .end; fault = f }
 
-  pub plan-read : {next : ℕ} (f : Fault) → t .end ≡ Next next → fault f ≡ faultFrom ws widths (planParts (t .variables) (take (t .inputs) ins) (take (t .conjuncts) guard)) at (λ k. false) (take (t .elements) plan) → IsReviewed ws widths at (record { end = t .end; fault = f })
-  unfolding outlined
-  plan-read f e y = record { ends = skips (t .end) outlined (x .same); faults = y ∙ parts-fault ws widths outlined at (λ k. false) (take (t .elements) plan) ∙ sym (ap (faultIn ws widths at) (read-to e)) }
+  with-fault : (f : Fault) → fault f ≡ transitionFault ws widths at → IsReviewed ws widths at table base (reviewed f) after
+  with-fault f h = record { ends = skips (t .end) (outlined t own) (x .parts .same); faults = h; parts = record { counted = t; are = x .parts }; before = x .before }
+
+  pub unread-plan : {n p : ℕ} → t .end ≡ Refused n p → IsReviewed ws widths at table base (reviewed Nothing) after
+  unread-plan e = with-fault Nothing (sym (ap (faultIn ws widths at) (read-to e)))
+
+  -- the parts of a table as the code lends them, by numbers that are told as differences
+  pub plan-read : {next : ℕ} (f : Fault) (m g p : ℕ) → t .end ≡ Next next → m ≡ 32 → g ≡ t .conjuncts → p ≡ t .elements → fault f ≡ faultFrom ws widths (planParts (t .variables) (take (t .inputs) (take m (drop base after))) (take g (drop 16 (take m (drop base after))))) at (λ k. false) (take p (drop 24 (take m (drop base after)))) → IsReviewed ws widths at table base (reviewed f) after
+  plan-read f m g p e a b c y = with-fault f ((rw (a, b, c) at y) ∙ parts-fault ws widths (outlined t own) at (λ k. false) (take (t .elements) (drop 24 own)) ∙ sym (ap (faultIn ws widths at) (read-to e)))
+
+-- the front of 32 numbers of a table has as many as were asked for
+pub own-front : (l : List ℕ) (base m n : ℕ) → m ≡ 32 → base + 32 ≤ length l → n ≤ 8 → n ≡ length (take n (take m (drop base l)))
+own-front l base m n e h k = sym (length-take-le n (take m (drop base l)) (omega (arith, length-take-le m (drop base l) (omega (arith, length-drop base l)))))
 
 -- ── Transitions, one after the other ──
 
@@ -201,31 +214,58 @@ among-last ws widths (a ∷ ats) at = ap (firstFault (transitionFault ws widths 
     by none = refl
     by (some p) = refl
 
--- the i first of n transitions were read, and f is the first fault of their plans
-pub record Reviewing (ws widths : List ℕ) (n at i next : ℕ) (begins : List ℕ) (f : Fault) : Type 0 where
+-- ── Where parts are kept ──
+
+pub base-others : (i first last : ℕ) → i < first → IsBase i first last last
+base-others i first last h = record { inside = omega arith; own = λ k e l. absurd (omega arith); behind = λ k e l. l }
+
+pub base-past : (i first last : ℕ) → last / 32 < i - first → IsBase i first last last
+base-past i first last h = record { inside = omega arith; own = λ k e l. absurd (omega arith); behind = λ k e l. l }
+
+pub base-own : (i first last : ℕ) → first ≤ i → i - first ≤ last / 32 → IsBase i first last ((i - first) * 32)
+base-own i first last g h = record { inside = omega arith; own = λ k e l. omega arith; behind = λ k e l. omega arith }
+
+-- one transition more
+module _ {ws widths : List ℕ} {i first next : ℕ} {begins table : List ℕ} (K : AreKept ws widths i begins first table) (h : i < length begins) where
+  kept-turn : {last base : ℕ} {t : Reviewed} {after : List ℕ} → IsBase i first last base → last + 32 ≡ length table → length after ≡ length table → IsReviewed ws widths next table base t after → AreKept ws widths (i + 1) (set begins i next) first after
+  kept-turn {last} {base} {t} {after} b l m x = record { each = λ k g r. by k g r (either (ltb (first + k) i)) }
+    where
+      by : (k : ℕ) → first + k < i + 1 → k * 32 + 64 ≤ length after → (ltb (first + k) i ≡ true) ⊎ (ltb (first + k) i ≡ false) → OwnParts ws widths (getD (set begins i next) (first + k) 0) (take 32 (drop (k * 32) after))
+      by k g r (inl u) =
+          let e = ltb-true (first + k) i u in
+          rw (getD-set-other begins i (first + k) next 0 (omega arith), part-same (x .before) (k * 32) 32 (b .behind k e (omega arith))) (K .each k e (omega arith))
+      by k g r (inr u) =
+          let e : first + k ≡ i = omega (arith, ltb-false (first + k) i u) in
+          let o = b .own k e (omega arith) in
+          rw (e, getD-set-same begins i next 0 h, ← o) (x .parts)
+
+-- the i first of n transitions were read, f is the first fault of their plans, and their parts are kept
+pub record Reviewing (ws widths : List ℕ) (n at i next : ℕ) (begins : List ℕ) (f : Fault) (first : ℕ) (table : List ℕ) : Type 0 where
   pub collected : Collected (skimTransitions ws widths) n at i next begins
   pub faults : fault f ≡ faultAmong ws widths (take i begins)
+  pub kept : AreKept ws widths i begins first table
 
-pub reviewing-start : (ws widths : List ℕ) (n at : ℕ) (begins : List ℕ) → Reviewing ws widths n at 0 at begins Nothing
+pub reviewing-start : (ws widths : List ℕ) (n at : ℕ) (begins : List ℕ) (first : ℕ) (table : List ℕ) → Reviewing ws widths n at 0 at begins Nothing first table
 unfolding faultAmong
-reviewing-start ws widths n at begins = record { collected = collected-start (skimTransitions ws widths) n at begins; faults = refl }
+reviewing-start ws widths n at begins first table = record { collected = collected-start (skimTransitions ws widths) n at begins; faults = refl; kept = record { each = λ k h. absurd (omega arith) } }
 
-module _ {ws widths : List ℕ} {n at i next : ℕ} {begins : List ℕ} {f : Fault} (a : Reviewing ws widths n at i next begins f) where
-  pub reviewing-end : n ≤ i → AreReviewed ws widths n at begins (record { end = Next next; fault = f })
+module _ {ws widths : List ℕ} {n at i next : ℕ} {begins : List ℕ} {f : Fault} {first : ℕ} {table : List ℕ} (a : Reviewing ws widths n at i next begins f first table) where
+  pub reviewing-end : n ≤ i → AreReviewed ws widths n at begins first table (record { end = Next next; fault = f })
   reviewing-end h =
       let g = a .collected .gathered .inside in
       let e : i ≡ n = omega arith in
-      record { same = collected-end (a .collected) h; faults = λ k d. rw e at (a .faults) }
+      record { same = collected-end (a .collected) h; faults = λ k d. rw e at (a .faults); kept = λ k d. rw e at (a .kept) }
 
-  module _ (h : i < n) {t : Reviewed} (x : IsReviewed ws widths next t) where
-    pub reviewing-goes : {p : ℕ} {g : Fault} → n ≤ length begins → t .end ≡ Next p → fault g ≡ firstFault (fault f) (fault (t .fault)) → Reviewing ws widths n at (i + 1) p (set begins i next) g
-    reviewing-goes l d e =
+  module _ (h : i < n) {base : ℕ} {t : Reviewed} {after : List ℕ} (x : IsReviewed ws widths next table base t after) where
+    pub reviewing-goes : {last p : ℕ} {g : Fault} → n ≤ length begins → IsBase i first last base → last + 32 ≡ length table → length after ≡ length table → t .end ≡ Next p → fault g ≡ firstFault (fault f) (fault (t .fault)) → Reviewing ws widths n at (i + 1) p (set begins i next) g first after
+    reviewing-goes l b r m d e =
         record {
           collected = collected-goes (a .collected) h (x .ends) l d;
           faults = e ∙ rw (a .faults, x .faults) (sym (among-last ws widths (take i begins) next)) ∙ sym (ap (faultAmong ws widths) (take-set begins i next (omega arith)));
+          kept = kept-turn (a .kept) (omega arith) b r m x;
         }
 
-    pub reviewing-stops : {m q : ℕ} (begins′ : List ℕ) → t .end ≡ Refused m q → AreReviewed ws widths n at begins′ t
-    reviewing-stops begins′ d = record { same = rw d (collected-stops (a .collected) h (x .ends) d); faults = λ k e. let z : Refused _ _ ≡ Next k = sym d ∙ e in false-true (cc) }
+    pub reviewing-stops : {m q : ℕ} (begins′ : List ℕ) → t .end ≡ Refused m q → AreReviewed ws widths n at begins′ first after t
+    reviewing-stops begins′ d = record { same = rw d (collected-stops (a .collected) h (x .ends) d); faults = λ k e. let z : Refused _ _ ≡ Next k = sym d ∙ e in next-refused (sym z); kept = λ k e. let z : Refused _ _ ≡ Next k = sym d ∙ e in next-refused (sym z) }
 
-pub ruleset faults = (needs, bounded-turn, bounded-stop, bounded-end, match-past, match-there, solve-past, solve-there, range-there, plan-unread, plan-unfit, plan-turn, plan-end, reviewing-end, reviewing-goes, reviewing-stops)
+pub ruleset faults = (needs, bounded-turn, bounded-stop, bounded-end, match-past, match-there, solve-past, solve-there, range-there, plan-unread, plan-unfit, plan-turn, plan-end, base-others, base-past, base-own, reviewing-end, reviewing-stops)

@@ -12,12 +12,12 @@ use net::index::read_parts;
 ghost use mathlib.Core.Path.{_≡_};
 ghost use mathlib.Core.Bool.{false, cond};
 ghost use mathlib.Core.Option.{none, some};
-ghost use Prim.Native.Nat.{_≤_};
+ghost use Prim.Native.Nat.{_≤_, _+_};
 ghost use lib.ListN.{length};
 ghost use Rattle.semantics.specs.Plan.{everyBelow, firstOf};
 ghost use Rattle.plans.specs.Fitness.{bindsAt, faultFrom};
 ghost use Rattle.plans.specs.Fitness.{planParts};
-ghost use Rattle.plans.specs.Plan.{fault, IsReviewed, AreReviewed};
+ghost use Rattle.plans.specs.Plan.{fault, IsReviewed, IsBase, AreReviewed};
 ghost use Rattle.elements.specs.Bound.{marked, IsBound, sorted};
 
 // Binds the variables that an element of a transition binds, whose input arcs and conjuncts begin at these positions; whether there is one.
@@ -109,23 +109,18 @@ pub struct Reviewed {
     pub fault: Fault,
 }
 
-// The transition at a position, with the fault of its plan.
-fn read_plan(words: &[u32], widths: &[usize], at: usize) -> Reviewed
-    ensures { λ r. ⌜ IsReviewed (now (words .entry)) (now (widths .entry)) at r ⌝ }
+// The transition at a position, with the fault of its plan; where its parts begin is written to 32 numbers of a table from one on.
+fn read_plan(
+    words: &[u32],
+    widths: &[usize],
+    table: &mut [usize],
+    base: usize,
+    at: usize,
+) -> Reviewed
+    requires { ⌜ base + 32 ≤ length (now table) ⌝ }
+    ensures { λ r. ⌜ IsReviewed (now (words .entry)) (now (widths .entry)) at (now (table .entry)) base r (now (table .exit)) ⌝ }
 {
-    let mut ins = [0usize; 8];
-    let mut outs = [0usize; 8];
-    let mut guard = [0usize; 8];
-    let mut plan = [0usize; 8];
-    let t = read_parts(
-        words,
-        widths,
-        &mut ins,
-        &mut outs,
-        &mut guard,
-        &mut plan,
-        at,
-    );
+    let t = read_parts(words, widths, table, base, at);
     let end = t.end;
     let Skipped::Next(_) = end else {
         return Reviewed {
@@ -133,12 +128,13 @@ fn read_plan(words: &[u32], widths: &[usize], at: usize) -> Reviewed
             fault: Fault::Nothing,
         };
     };
+    let own = &table[base..base + 32];
     let inputs = t.inputs;
     let conjuncts = t.conjuncts;
     let elements = t.elements;
-    let ins = &ins[..inputs];
-    let guard = &guard[..conjuncts];
-    let plan = &plan[..elements];
+    let ins = &own[..inputs];
+    let guard = &own[16..16 + conjuncts];
+    let plan = &own[24..24 + elements];
     let fault = plan_fault(words, widths, t.variables, ins, guard, plan, at);
     Reviewed {
         end: end,
@@ -156,23 +152,43 @@ fn first_of(a: Fault, b: Fault) -> Fault
     }
 }
 
-// n transitions, with the first fault of their plans; where each begins is written to the front of `begins`.
+// Where in a table the parts of the i-th transition are kept: those from `first` on one after the other, 32 numbers each, as many as there is room for
+// before `last`; all others there.
+fn base_of(i: usize, first: usize, last: usize) -> usize
+    ensures { λ r. ⌜ IsBase i first last r ⌝ }
+{
+    if i < first {
+        return last;
+    }
+    let k = i - first;
+    if last / 32 < k {
+        return last;
+    }
+    k * 32
+}
+
+// n transitions, with the first fault of their plans; where each begins is written to the front of `begins`, and where the parts of those from `first` on
+// begin to a table, 32 numbers for each. The last 32 numbers of the table serve all others.
 pub fn read_plans(
     words: &[u32],
     widths: &[usize],
     begins: &mut [usize],
     n: usize,
+    first: usize,
+    table: &mut [usize],
     at: usize,
 ) -> Reviewed
     requires { ⌜ n ≤ length (now begins) ⌝ }
-    ensures { λ r. ⌜ AreReviewed (now (words .entry)) (now (widths .entry)) n at (now (begins .exit)) r ⌝ }
+    requires { ⌜ 32 ≤ length (now table) ⌝ }
+    ensures { λ r. ⌜ AreReviewed (now (words .entry)) (now (widths .entry)) n at (now (begins .exit)) first (now (table .exit)) r ⌝ }
 {
+    let last = table.len() - 32;
     let mut fault = Fault::Nothing;
     let mut i = 0;
     let mut next = at;
     while i < n {
         begins[i] = next;
-        let t = read_plan(words, widths, next);
+        let t = read_plan(words, widths, table, base_of(i, first, last), next);
         let end = t.end;
         let Skipped::Next(p) = end else {
             return t;

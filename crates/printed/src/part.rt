@@ -52,20 +52,14 @@ fn net_part(out: &mut [u8], i: usize, net: &[u32], marking: &[u32]) -> Part
         };
     }
     let mut places_at = [0usize; 64];
-    let mut ins = [0usize; 8];
-    let mut outs = [0usize; 8];
-    let mut guard = [0usize; 8];
-    let mut plan = [0usize; 8];
+    let mut own = [0usize; 64];
     let mut begins = [0usize; 65];
     let s = prepare(
         net,
         i as u32,
         marking,
         &mut places_at,
-        &mut ins,
-        &mut outs,
-        &mut guard,
-        &mut plan,
+        &mut own,
         &mut begins,
     );
     let end = s.end;

@@ -35,13 +35,13 @@ tail-cleared a xs ys e =
 settled : (net : Net) (buffer spare menu : List ℕ) (e : End) (r : Ended) (after : List ℕ) → HasRun net e r after → length after ≡ length buffer → runEnd (record { done = r .done; refusal = r .refusal; position = 0; length = r .length }) (take (r .length) after ++ replicate (length after - r .length) 0) (replicate (length spare) 0) (replicate (length menu) 0) ≡ ranTo net buffer spare menu e
 settled net buffer spare menu e r after h l = rw (h .words, l, h .done, h .refusal, h .size)
 
-module _ (ws : List ℕ) (budget : ℕ) (buffer : List ℕ) (m : ℕ) (spare menu picks : List ℕ) {i : NetIndex} (b : IsStart ws buffer m picks i) where
+module _ (ws : List ℕ) (budget : ℕ) (buffer : List ℕ) (m : ℕ) (spare menu picks : List ℕ) {i : NetIndex} {parts : List ℕ} (b : IsStart ws buffer m picks i parts) where
   pub run-unstarted : {n p : ℕ} → i .end ≡ Refused n p → runEnd (record { done = 0; refusal = n; position = p; length = 0 }) buffer spare menu ≡ runCall ws budget buffer m spare menu picks
   unfolding runCall
   run-unstarted {n} {p} e = rw (b .refuses n p e)
 
   module _ {next : ℕ} (e : i .end ≡ Next next) where
-    S : Started ws buffer m picks i
+    S : Started ws buffer m picks i parts
     S = b .begins next e
 
     net-is : S .net ≡ netOf (acceptNet ws)
@@ -50,11 +50,11 @@ module _ (ws : List ℕ) (budget : ℕ) (buffer : List ℕ) (m : ℕ) (spare men
     marked : markingRead (netOf (acceptNet ws) .places) (take m buffer) ≡ read (S .entries) (S .end)
     marked = ap (λ (n : Net). markingRead (n .places) (take m buffer)) (sym net-is) ∙ S .marked
 
-    pub run-runnable : {p q : ℕ} → p ≡ min (i .places) 64 → q ≡ min (i .transitions) 64 → Runnable ws (take p (i .«places_at»)) (take p (i .widths)) (take q (i .«transitions_at»)) buffer m picks
+    pub run-runnable : {p q : ℕ} → p ≡ min (i .places) 64 → q ≡ min (i .transitions) 64 → Runnable ws (take p (i .«places_at»)) (take q (i .«transitions_at»)) parts buffer m picks
     run-runnable {p} {q} f g =
         rw (f, g)
         (record {
-          known = subst (NetKnown ws (take (min (i .places) 64) (i .«places_at»)) (take (min (i .places) 64) (i .widths)) (take (min (i .transitions) 64) (i .«transitions_at»))) net-is (S .known);
+          known = subst (NetKnown ws (take (min (i .places) 64) (i .«places_at»)) (take (min (i .transitions) 64) (i .«transitions_at»)) parts) net-is (S .known);
           inside = S .inside;
           entries = S .entries;
           end = S .end;

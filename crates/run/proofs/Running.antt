@@ -29,7 +29,6 @@ use Rattle.semantics.proofs.Reach.{Marks, pick-marks}
 use Rattle.marking.specs.Marked.{markingRead}
 use Rattle.search.specs.Scene.{netOf, countsIn}
 use Rattle.picks.specs.declared.pick.Picked.{Picked}
-use Rattle.parts.specs.Parts.{NetRead, PartsKept}
 use Rattle.picks.specs.Pick.{Leaves, Pickable, IsPicked}
 use Rattle.run.specs.Run.{Runnable, HasRun}
 
@@ -78,7 +77,7 @@ net ws = netOf (acceptNet ws)
 abbrev first : List ℕ → List ℕ → ℕ → Counts
 first ws buffer m = countsIn (markingRead (net ws .places) (take m buffer))
 
-sound : {ws ps widths transitions buffer : List ℕ} {m : ℕ} {picks : List ℕ} → Runnable ws ps widths transitions buffer m picks → SoundNet (net ws)
+sound : {ws ps transitions parts buffer : List ℕ} {m : ℕ} {picks : List ℕ} → Runnable ws ps transitions parts buffer m picks → SoundNet (net ws)
 sound {ws} R = accepted-sound ws (net ws) (R .known .whole) (R .known .accepted)
 
 pub record Sofar (ws : List ℕ) (budget : ℕ) (buffer₀ : List ℕ) (m : ℕ) (spare₀ menu₀ picks buffer spare menu : List ℕ) (done size : ℕ) : Type 0 where
@@ -92,11 +91,7 @@ pub record Sofar (ws : List ℕ) (budget : ℕ) (buffer₀ : List ℕ) (m : ℕ)
   pub marked : markingRead (net ws .places) (take size buffer) ≡ read entries end
   pub ran : plainRun houseTable (net ws) (limits budget buffer₀ spare₀ menu₀) (first ws buffer₀ m) 0 (take done picks) ≡ record { counts = countsOf entries; done = done; refusal = 0 }
 
--- the net whose parts are read
-pub runs-net : {ws ps widths transitions buffer : List ℕ} {m : ℕ} {picks : List ℕ} → Runnable ws ps widths transitions buffer m picks → NetRead ws widths transitions
-runs-net R = record { whole = R .known .whole; accepted = R .known .accepted; wide = R .known .wide; stand = R .known .stand }
-
-module _ {ws ps widths transitions : List ℕ} {budget : ℕ} {buffer₀ : List ℕ} {m : ℕ} {spare₀ menu₀ picks : List ℕ} (R : Runnable ws ps widths transitions buffer₀ m picks) where
+module _ {ws ps transitions parts : List ℕ} {budget : ℕ} {buffer₀ : List ℕ} {m : ℕ} {spare₀ menu₀ picks : List ℕ} (R : Runnable ws ps transitions parts buffer₀ m picks) where
   pub sofar-first : Sofar ws budget buffer₀ m spare₀ menu₀ picks buffer₀ spare₀ menu₀ 0 m
   unfolding plainRun
   sofar-first = record {
@@ -132,8 +127,8 @@ module _ {ws ps widths transitions : List ℕ} {budget : ℕ} {buffer₀ : List 
         rw e (record { done = refl; refusal = refl; size = sized; inside = S .inside; words = words })
 
     module _ (h : done < length picks) where
-      pub sofar-pickable : {parts : List ℕ} → PartsKept ws (net ws) parts → Pickable ws ps transitions parts buffer size (getD picks done 0)
-      sofar-pickable k = record { widths = widths; known = R .known; kept = k; inside = S .inside; entries = S .entries; end = S .end; marked = S .marked; there = every-number (λ w. pickTransition w < length (net ws .transitions)) picks done 0 (R .there) h }
+      pub sofar-pickable : Pickable ws ps transitions parts buffer size (getD picks done 0)
+      sofar-pickable = record { known = R .known; inside = S .inside; entries = S .entries; end = S .end; marked = S .marked; there = every-number (λ w. pickTransition w < length (net ws .transitions)) picks done 0 (R .there) h }
 
       same-limits : limits budget buffer spare menu ≡ (limits budget buffer₀ spare₀ menu₀)
       same-limits = rw (S .buffer-kept, S .spare-kept, S .menu-kept)

@@ -18,9 +18,9 @@ use Rattle.search.specs.Scene.{netOf, countsIn}
 use Rattle.run.specs.declared.run.Ended.{Ended}
 use Rattle.starts.specs.Known.{NetKnown}
 
--- a net, an accepted marking at the front of a buffer, and picks of the net's transitions
-pub record Runnable (ws ps widths transitions buffer : List ℕ) (m : ℕ) (picks : List ℕ) : Type 0 where
-  pub known : NetKnown ws ps widths transitions (netOf (acceptNet ws))
+-- a net with the parts of its transitions, an accepted marking at the front of a buffer, and picks of the net's transitions
+pub record Runnable (ws ps transitions parts buffer : List ℕ) (m : ℕ) (picks : List ℕ) : Type 0 where
+  pub known : NetKnown ws ps transitions parts (netOf (acceptNet ws))
   pub inside : m ≤ length buffer
   pub entries : List Entry
   pub end : ℕ

@@ -1,7 +1,6 @@
 // The call run: picks fired one after the other, each from the marking that the one before it left.
 use expression::read::Skipped;
 use menus::menu::clear;
-use parts::parts::keep_all;
 use picks::pick::pick_once;
 use semantics::Outcome;
 use starts::begin::begin;
@@ -17,12 +16,12 @@ pub struct Ended {
     pub length: usize,
 }
 
-// Fires the picks in turn; the first one that is refused ends the run.
+// Fires the picks in turn; the first one that is refused ends the run. Where the parts of the transitions begin stands in a table.
 fn fire_picks(
     net: &[u32],
     places: &[usize],
-    widths: &[usize],
     transitions: &[usize],
+    parts: &[usize],
     budget: u32,
     buffer: &mut [u32],
     m: usize,
@@ -30,11 +29,9 @@ fn fire_picks(
     menu: &mut [u32],
     picks: &[u32],
 ) -> Ended
-    requires { ⌜ Runnable (now net) (now places) (now widths) (now transitions) (now buffer) m (now picks) ⌝ }
+    requires { ⌜ Runnable (now net) (now places) (now transitions) (now parts) (now buffer) m (now picks) ⌝ }
     ensures { λ r. ⌜ HasRunFrom (now (net .entry)) budget (now (buffer .entry)) m (now (spare .entry)) (now (menu .entry)) (now (picks .entry)) r (now (buffer .exit)) ⌝ }
 {
-    let mut parts = [0usize; 2048];
-    keep_all(net, widths, transitions, &mut parts);
     let mut done = 0;
     let mut length = m;
     loop {
@@ -49,7 +46,7 @@ fn fire_picks(
             net,
             places,
             transitions,
-            &parts[..],
+            parts,
             budget,
             buffer,
             length,
@@ -82,7 +79,8 @@ pub fn run(
 ) -> Outcome
     ensures { λ r. ⌜ runEnd r (now (buffer .exit)) (now (spare .exit)) (now (menu .exit)) ≡ runCall (now (net .entry)) budget (now (buffer .entry)) m (now (spare .entry)) (now (menu .entry)) (now (picks .entry)) ⌝ }
 {
-    let index = begin(net, buffer, m, picks);
+    let mut parts = [0usize; 2080];
+    let index = begin(net, buffer, m, picks, &mut parts);
     let end = index.end;
     match end {
         Skipped::Refused(n, p) => Outcome {
@@ -95,13 +93,12 @@ pub fn run(
             let places = at_most(64, index.places);
             let transitions = at_most(64, index.transitions);
             let places_at = index.places_at;
-            let widths = index.widths;
             let transitions_at = index.transitions_at;
             let ended = fire_picks(
                 net,
                 &places_at[..places],
-                &widths[..places],
                 &transitions_at[..transitions],
+                &parts[..],
                 budget,
                 buffer,
                 m,

@@ -1,11 +1,11 @@
 -- The rules of a situation: net, then transition, then marking. Each is told by its index; what the indexes have is what semantics reads,
 -- since each structure stands at its position.
 use mathlib.Core.Path.{_≡_, sym, ap, _∙_}
-use Prim.Native.Nat.{ℕ, min, _≤_, _<_}
+use Prim.Native.Nat.{ℕ, min, _+_, _*_, _≤_, _<_}
 use mathlib.Core.List.{List, map}
 use mathlib.Core.Option.{some}
 use native.Mathlib.Omega.{arith}
-use lib.ListN.{length, getD, getElem?, take}
+use lib.ListN.{length, getD, getElem?, take, drop}
 use lib.Seq.{getD-take}
 use Rattle.semantics.specs.Refusal.{noTransition}
 use Rattle.semantics.specs.Reading.{Reading, read, refused}
@@ -21,11 +21,12 @@ use Rattle.expression.specs.Skip.{forget, skipped}
 use Rattle.expression.proofs.Laws.{passed-read, passed-refused, next-refused}
 use Rattle.net.specs.declared.index.NetIndex.{NetIndex}
 use Rattle.net.specs.declared.index.Parts.{Parts}
-use Rattle.net.specs.Skim.{changed, netOutline, width}
-use Rattle.net.specs.Index.{netRead, AreParts}
+use Rattle.net.specs.Skim.{changed, outline, netOutline}
+use Rattle.net.specs.Index.{netRead, partsOf}
+use Rattle.net.specs.Parted.{Parted}
 use Rattle.net.specs.Places.{placesAt, PlacesFit}
 use Rattle.net.proofs.Located.{At, net-transitions}
-use Rattle.net.proofs.Placed.{parts-outline}
+use Rattle.net.proofs.Parted.{head-inside, front-outline}
 use Rattle.accept.specs.declared.accepted.Extent.{Extent}
 use Rattle.accept.specs.Front.{IsExtent}
 use Rattle.accept.proofs.Checking.{to-all, index-refused}
@@ -33,7 +34,7 @@ use Rattle.accept.proofs.Tables as tables
 use Rattle.marking.specs.Marked.{markingRead, IsMarking}
 use Rattle.situations.specs.Situation.{Index, Prepared, IsSituation}
 
-module _ (ws ms : List ℕ) (t : ℕ) (r : Extent) {places widths transitions : List ℕ} (told-net : IsExtent ws (length ws) places widths transitions r) where
+module _ (ws ms : List ℕ) (t : ℕ) (r : Extent) {places widths transitions own : List ℕ} (told-net : IsExtent ws (length ws) places widths transitions t own r) where
   -- the index of the net, whose tables are lent
   abbrev i : NetIndex
   i = record { end = r .end; places = r .places; transitions = r .transitions; «places_at» = places; widths = widths; «transitions_at» = transitions }
@@ -74,7 +75,7 @@ module _ (ws ms : List ℕ) (t : ℕ) (r : Extent) {places widths transitions : 
       prepares = λ n g. let a : Next n ≡ Refused noTransition 0 = sym g ∙ d in next-refused a;
     }
 
-    module _ (h : t < q) {p : ℕ} (few : p ≡ min (i .places) 64) {j : Parts} {ins outs guard plan : List ℕ} (y : AreParts ws (take p (i .widths)) (getD (i .«transitions_at») t 0) ins outs guard plan j) {end : Skipped} {begins : List ℕ} (z : IsMarking (placesAt ws (take p (i .«places_at»))) ms end begins) where
+    module _ (h : t < q) where
       known : (tr : Transition) × (getElem? (net .transitions) t ≡ some tr)
       known = length-at (net .transitions) t (omega (arith, many))
 
@@ -87,14 +88,24 @@ module _ (ws ms : List ℕ) (t : ℕ) (r : Extent) {places widths transitions : 
       reads-transition : readTransition ws (net .places) (getD (i .«transitions_at») t 0) ≡ read (known .0) (stands .next)
       reads-transition = rw at-position (stands .reads)
 
+      -- the TRANSITION word is there
+      pub word-inside : getD (i .«transitions_at») t 0 < length ws
+      word-inside = head-inside ws (net .places) (getD (i .«transitions_at») t 0) (known .0) (stands .next) reads-transition
+
+    module _ (h : t < q) {p : ℕ} (few : p ≡ min (i .places) 64) (room : length own ≡ 64) (first : Skipped) {position : ℕ} (d : position ≡ getD (i .«transitions_at») t 0) {j : Parts} (y : j ≡ partsOf first (getD ws position 0)) {end : Skipped} {begins : List ℕ} (z : IsMarking (placesAt ws (take p (i .«places_at»))) ms end begins) where
       placed : net .places ≡ placesAt ws (take p (i .«places_at»))
       placed = tables.placed ws i x e full wide few
 
-      widths-same : take p (i .widths) ≡ map width (net .places)
-      widths-same = tables.widths-are ws i x e full wide few
+      own-parts : Parted (getD ws position 0) (take 32 (drop (0 * 32) own)) (outline (known h .0))
+      own-parts =
+          let o : t + 0 ≡ t = omega arith in
+          rw (d, at-position h) (told-net .kept net next reads .each 0 (known h .0) (rw o (known h .1)) (omega arith))
+
+      there : readTransition ws (net .places) position ≡ read (known h .0) (stands h .next)
+      there = rw d (reads-transition h)
 
       abbrev s : Index
-      s = record { end = end; places = p; «places_at» = places; position = getD (i .«transitions_at») t 0; transition = j; ins = ins; outs = outs; guard = guard; plan = plan; begins = begins }
+      s = record { end = end; places = p; «places_at» = places; position = position; transition = j; own = own; begins = begins }
 
       pub told : IsSituation ws t ms s
       unfolding situation readMarking markingRead
@@ -104,7 +115,7 @@ module _ (ws ms : List ℕ) (t : ℕ) (r : Extent) {places widths transitions : 
           marking = rw placed (z .same)
 
           stops : (n o : ℕ) → end ≡ Refused n o → situation ws t ms ≡ refused n o
-          stops n o k = rw (is-accepted, known .1, passed-refused (markingRead (net .places) ms) end marking k)
+          stops n o k = rw (is-accepted, known h .1, passed-refused (markingRead (net .places) ms) end marking k)
 
           goes : (n : ℕ) → end ≡ Next n → Prepared ws t ms s
           goes n k = by (passed-read (markingRead (net .places) ms) end marking k)
@@ -113,22 +124,22 @@ module _ (ws ms : List ℕ) (t : ℕ) (r : Extent) {places widths transitions : 
               by (es, r) = record {
                 net = net;
                 whole = next;
-                transition = known .0;
-                after = stands .next;
+                transition = known h .0;
+                after = stands h .next;
                 entries = es;
                 end = n;
                 accepted = is-accepted;
-                named = known .1;
+                named = known h .1;
                 few = omega (arith, few);
                 placed = placed;
                 fits = places-fit few;
-                there = reads-transition;
-                outlines = parts-outline ws (net .places) (getD (i .«transitions_at») t 0) ins outs guard plan (rw widths-same at y) (known .0) (stands .next) reads-transition;
-                few-inputs = y .few-inputs;
-                few-outputs = y .few-outputs;
-                few-conjuncts = y .few-conjuncts;
-                few-elements = y .few-elements;
+                there = there;
+                outlines = rw y (front-outline own (getD ws position 0) first own-parts);
+                few-inputs = rw y (own-parts .few .inputs);
+                few-outputs = rw y (own-parts .few .outputs);
+                few-conjuncts = rw y (own-parts .few .guard);
+                few-elements = rw y (own-parts .few .plan);
                 marked = r;
                 begins = record { at = λ o l. z .begins es n (rw placed at r) o l };
-                same = rw (is-accepted, known .1, r);
+                same = rw (is-accepted, known h .1, r);
               }

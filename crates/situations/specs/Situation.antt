@@ -27,18 +27,15 @@ pub record Index : Type 0 where
   pub «places_at» : List ℕ
   pub position : ℕ
   pub transition : Parts
-  pub ins : List ℕ
-  pub outs : List ℕ
-  pub guard : List ℕ
-  pub plan : List ℕ
+  pub own : List ℕ
   pub begins : List ℕ
 
-abbrev pub index : Situation → List ℕ → List ℕ → List ℕ → List ℕ → List ℕ → List ℕ → Index
-index r places ins outs guard plan begins = record { end = r .end; places = r .places; «places_at» = places; position = r .position; transition = r .transition; ins = ins; outs = outs; guard = guard; plan = plan; begins = begins }
+abbrev pub index : Situation → List ℕ → List ℕ → List ℕ → Index
+index r places own begins = record { end = r .end; places = r .places; «places_at» = places; position = r .position; transition = r .transition; own = own; begins = begins }
 
--- where the parts of its transition begin: at the fronts of the tables
+-- where the parts of its transition begin: at the front of its table
 abbrev pub outlined : Index → Outline
-outlined r = outlinedParts (r .transition) (r .ins) (r .outs) (r .guard) (r .plan)
+outlined r = outlinedParts (r .transition) (r .own)
 
 -- an accepted net, one of its transitions and an accepted marking, and what the code knows of each
 pub record Prepared (ws : List ℕ) (t : ℕ) (ms : List ℕ) (r : Index) : Type 0 where

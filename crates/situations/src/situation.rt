@@ -4,7 +4,7 @@ use accept::accepted::accept_into;
 use expression::read::Skipped;
 use marking::index::read_marking;
 use net::index::Parts;
-use net::index::read_parts;
+use net::index::parts_of;
 use word::size::at_most;
 ghost use mathlib.Core.Path.{_≡_};
 ghost use lib.ListN.{length};
@@ -37,37 +37,40 @@ fn refused_situation(end: Skipped) -> Situation
     }
 }
 
-// Net, then transition, then marking. Where the net's places begin, the transition's arcs, conjuncts and elements, and the entries of each place in
-// the marking, is written to six tables.
+// Net, then transition, then marking. Where the net's places begin, the transition's parts, eight of each kind in one table, and the entries of each place in
+// the marking, is written to three tables. The third serves first for the positions of the transitions, of which one is wanted.
 pub fn prepare(
     net: &[u32],
     transition: u32,
     marking: &[u32],
     places_at: &mut [usize],
-    ins: &mut [usize],
-    outs: &mut [usize],
-    guard: &mut [usize],
-    plan: &mut [usize],
+    own: &mut [usize],
     begins: &mut [usize],
 ) -> Situation
-    requires { ⌜ (length (now «places_at») ≡ 64) × (length (now begins) ≡ 65) ⌝ }
-    requires { ⌜ (length (now ins) ≡ 8) × (length (now outs) ≡ 8) × (length (now guard) ≡ 8) × (length (now plan) ≡ 8) ⌝ }
-    ensures { λ r. ⌜ IsSituation (now (net .entry)) transition (now (marking .entry)) (index r (now («places_at» .exit)) (now (ins .exit)) (now (outs .exit)) (now (guard .exit)) (now (plan .exit)) (now (begins .exit))) ⌝ }
+    requires { ⌜ (length (now «places_at») ≡ 64) × (length (now own) ≡ 64) × (length (now begins) ≡ 65) ⌝ }
+    ensures { λ r. ⌜ IsSituation (now (net .entry)) transition (now (marking .entry)) (index r (now («places_at» .exit)) (now (own .exit)) (now (begins .exit))) ⌝ }
 {
     let mut widths = [0usize; 64];
-    let mut transitions_at = [0usize; 64];
-    let extent = accept_into(net, net.len(), places_at, &mut widths, &mut transitions_at);
+    let number = transition as usize;
+    let extent = accept_into(
+        net,
+        net.len(),
+        places_at,
+        &mut widths,
+        &mut begins[..64],
+        number,
+        own,
+    );
     let end = extent.end;
     let Skipped::Next(_) = end else {
         return refused_situation(end);
     };
-    let number = transition as usize;
     if at_most(64, extent.transitions) <= number {
         return refused_situation(Skipped::Refused(6, 0));
     }
-    let position = transitions_at[number];
+    let position = begins[number];
     let places = at_most(64, extent.places);
-    let t = read_parts(net, &widths[..places], ins, outs, guard, plan, position);
+    let t = parts_of(end, net[position]);
     let marking_end = read_marking(net, &places_at[..places], marking, begins);
     Situation {
         end: marking_end,

@@ -21,9 +21,8 @@ use Rattle.expression.specs.declared.read.Skipped.the-variants.{Next, Refused}
 use Rattle.expression.specs.Skip.{forget, skipped}
 use Rattle.expression.proofs.Laws.{passed-read, passed-refused, next-refused}
 use Rattle.net.specs.declared.index.NetIndex.{NetIndex}
-use Rattle.net.specs.Skim.{changed, netOutline}
-use Rattle.net.specs.Index.{netRead}
 use Rattle.net.specs.Places.{placesAt, PlacesFit}
+use Rattle.accept.specs.Front.{IsIndex}
 use Rattle.accept.proofs.Checking.{index-refused}
 use Rattle.accept.proofs.Tables as tables
 use Rattle.marking.specs.declared.pick.FirstPick.{FirstPick}
@@ -33,41 +32,41 @@ use Rattle.marking.specs.Picks.{firstPick}
 use Rattle.starts.specs.Start.{IsStart}
 
 -- a refusal is all that is told
-told-refused : {ws buffer : List ℕ} {m : ℕ} {picks : List ℕ} {r : NetIndex} {n p : ℕ} → r .end ≡ Refused n p → start ws buffer m picks ≡ refused n p → IsStart ws buffer m picks r
+told-refused : {ws buffer : List ℕ} {m : ℕ} {picks : List ℕ} {r : NetIndex} {table : List ℕ} {n p : ℕ} → r .end ≡ Refused n p → start ws buffer m picks ≡ refused n p → IsStart ws buffer m picks r table
 told-refused {n = n} {p = p} e s = record {
   refuses = λ k q g. let a : Refused k q ≡ Refused n p = sym g ∙ e in let b : _≡_ {A = Reading Start} (refused n p) (refused k q) = cc in s ∙ b;
   begins = λ next g. let a : Next next ≡ Refused n p = sym g ∙ e in next-refused a;
 }
 
-module _ (ws buffer : List ℕ) (m : ℕ) (picks : List ℕ) (i : NetIndex) (x : netRead i ≡ changed netOutline (acceptNet ws)) where
-  pub start-unaccepted : {n p : ℕ} → i .end ≡ Refused n p → IsStart ws buffer m picks i
+module _ (ws buffer : List ℕ) (m : ℕ) (picks : List ℕ) (i : NetIndex) {table : List ℕ} (x : IsIndex ws table i) where
+  pub start-unaccepted : {n p : ℕ} → i .end ≡ Refused n p → IsStart ws buffer m picks i table
   unfolding start
-  start-unaccepted e = told-refused e (rw (index-refused (acceptNet ws) i x e))
+  start-unaccepted e = told-refused e (rw (index-refused (acceptNet ws) i (x .same) e))
 
   module _ {next : ℕ} (e : i .end ≡ Next next) (full : length (i .«places_at») ≡ 64) (wide : length (i .widths) ≡ 64) (long : length (i .«transitions_at») ≡ 64) {q : ℕ} (less : q ≡ min (i .transitions) 64) where
     abbrev net : Net
-    net = tables.net ws i x e
+    net = tables.net ws i (x .same) e
 
     is-accepted : acceptNet ws ≡ read net next
-    is-accepted = tables.is-accepted ws i x e
+    is-accepted = tables.is-accepted ws i (x .same) e
 
     pub start-fits : {p : ℕ} → p ≡ min (i .places) 64 → PlacesFit ws (take p (i .«places_at»))
-    start-fits few = tables.places-fit ws i x e full wide few
+    start-fits few = tables.places-fit ws i (x .same) e full wide few
 
     module _ (f : FirstPick) (y : firstPick f ≡ firstUnknown q picks) where
       unknown : firstPick f ≡ firstUnknown (length (net .transitions)) picks
-      unknown = y ∙ ap (λ (k : ℕ). firstUnknown k picks) (sym (tables.many ws i x e full wide long less))
+      unknown = y ∙ ap (λ (k : ℕ). firstUnknown k picks) (sym (tables.many ws i (x .same) e full wide long less))
 
-      pub start-unknown : {p : ℕ} {r : NetIndex} → f ≡ At p → r .end ≡ Refused noTransition p → IsStart ws buffer m picks r
+      pub start-unknown : {p : ℕ} {r : NetIndex} → f ≡ At p → r .end ≡ Refused noTransition p → IsStart ws buffer m picks r table
       unfolding start
       start-unknown {p} d g = let u : firstUnknown (length (net .transitions)) picks ≡ some p = sym unknown ∙ ap firstPick d in told-refused g (rw (is-accepted, u))
 
-      module _ (d : f ≡ Nothing) {p : ℕ} (few : p ≡ min (i .places) 64) (k : Skipped) {table : List ℕ} (z : IsMarkingIn (placesAt ws (take p (i .«places_at»))) buffer m k table) where
+      module _ (d : f ≡ Nothing) {p : ℕ} (few : p ≡ min (i .places) 64) (k : Skipped) {begins : List ℕ} (z : IsMarkingIn (placesAt ws (take p (i .«places_at»))) buffer m k begins) where
         all-known : firstUnknown (length (net .transitions)) picks ≡ none
         all-known = sym unknown ∙ ap firstPick d
 
         placed : net .places ≡ placesAt ws (take p (i .«places_at»))
-        placed = tables.placed ws i x e full wide few
+        placed = tables.placed ws i (x .same) e full wide few
 
         marking-told : skipped k ≡ forget (markingIn net buffer m)
         unfolding markingIn readMarking markingRead
@@ -77,7 +76,7 @@ module _ (ws buffer : List ℕ) (m : ℕ) (picks : List ℕ) (i : NetIndex) (x :
             by (inl h) = rw h (z .within (leb-true m (length buffer) h) .same ∙ ap (λ ps. forget (markingRead ps (take m buffer))) (sym placed))
             by (inr h) = rw h (ap skipped (z .beyond (leb-false m (length buffer) h)))
 
-        pub start-unmarked : {n s : ℕ} {r : NetIndex} → k ≡ Refused n s → r .end ≡ Refused n s → IsStart ws buffer m picks r
+        pub start-unmarked : {n s : ℕ} {r : NetIndex} → k ≡ Refused n s → r .end ≡ Refused n s → IsStart ws buffer m picks r table
         unfolding start
         start-unmarked e′ g = told-refused g (rw (is-accepted, all-known, passed-refused (markingIn net buffer m) k marking-told e′))
 
@@ -85,7 +84,7 @@ module _ (ws buffer : List ℕ) (m : ℕ) (picks : List ℕ) (i : NetIndex) (x :
           marked-in : (es : List Entry) × (markingIn net buffer m ≡ read es end)
           marked-in = passed-read (markingIn net buffer m) k marking-told e′
 
-          pub start-malformed : {s : ℕ} {r : NetIndex} → h ≡ At s → r .end ≡ Refused badPick s → IsStart ws buffer m picks r
+          pub start-malformed : {s : ℕ} {r : NetIndex} → h ≡ At s → r .end ≡ Refused badPick s → IsStart ws buffer m picks r table
           unfolding start
           start-malformed {s} c g = let u : firstMalformed picks ≡ some s = sym w ∙ ap firstPick c in told-refused g (rw (is-accepted, all-known, marked-in .1, u))
 
@@ -97,9 +96,9 @@ module _ (ws buffer : List ℕ) (m : ℕ) (picks : List ℕ) (i : NetIndex) (x :
               by (inl t) a = (leb-true m (length buffer) t, rw t at a)
               by (inr t) a = let b : refused badMarking (length buffer) ≡ read (marked-in .0) end = rw t at a in false-true (cc)
 
-          pub start-begins : h ≡ Nothing → IsStart ws buffer m picks i
+          pub start-begins : length table ≡ 2080 → h ≡ Nothing → IsStart ws buffer m picks i table
           unfolding start
-          start-begins c = record {
+          start-begins l c = record {
             refuses = λ a b g. let o : Next next ≡ Refused a b = sym e ∙ g in next-refused o;
             begins = λ a g.
                 let u : firstMalformed picks ≡ none = sym w ∙ ap firstPick c in
@@ -108,10 +107,11 @@ module _ (ws buffer : List ℕ) (m : ℕ) (picks : List ℕ) (i : NetIndex) (x :
                   known = record {
                     whole = next;
                     accepted = is-accepted;
-                    placed = tables.placed ws i x e full wide refl;
-                    fits = tables.places-fit ws i x e full wide refl;
-                    wide = tables.widths-are ws i x e full wide refl;
-                    stand = tables.stand ws i x e full wide long refl;
+                    placed = tables.placed ws i (x .same) e full wide refl;
+                    fits = tables.places-fit ws i (x .same) e full wide refl;
+                    stand = tables.stand ws i (x .same) e full wide long refl;
+                    long = l;
+                    kept = x .kept net next (tables.reads ws i (x .same) e);
                   };
                   inside = in-buffer .0;
                   entries = marked-in .0;

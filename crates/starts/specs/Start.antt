@@ -14,10 +14,10 @@ use Rattle.net.specs.declared.index.NetIndex.{NetIndex}
 use Rattle.marking.specs.Marked.{markingRead}
 use Rattle.starts.specs.Known.{NetKnown}
 
--- an accepted net, an accepted marking in the first m words of a buffer, and picks of the net's transitions
-pub record Started (ws buffer : List ℕ) (m : ℕ) (picks : List ℕ) (r : NetIndex) : Type 0 where
+-- an accepted net with the parts of its transitions, an accepted marking in the first m words of a buffer, and picks of the net's transitions
+pub record Started (ws buffer : List ℕ) (m : ℕ) (picks : List ℕ) (r : NetIndex) (table : List ℕ) : Type 0 where
   pub net : Net
-  pub known : NetKnown ws (take (min (r .places) 64) (r .«places_at»)) (take (min (r .places) 64) (r .widths)) (take (min (r .transitions) 64) (r .«transitions_at»)) net
+  pub known : NetKnown ws (take (min (r .places) 64) (r .«places_at»)) (take (min (r .transitions) 64) (r .«transitions_at»)) table net
   pub inside : m ≤ length buffer
   pub entries : List Entry
   pub end : ℕ
@@ -26,6 +26,6 @@ pub record Started (ws buffer : List ℕ) (m : ℕ) (picks : List ℕ) (r : NetI
   pub formed : firstMalformed picks ≡ none
   pub same : start ws buffer m picks ≡ read (record { net = net; counts = countsOf entries }) 0
 
-pub record IsStart (ws buffer : List ℕ) (m : ℕ) (picks : List ℕ) (r : NetIndex) : Type 0 where
+pub record IsStart (ws buffer : List ℕ) (m : ℕ) (picks : List ℕ) (r : NetIndex) (table : List ℕ) : Type 0 where
   pub refuses : (n p : ℕ) → r .end ≡ Refused n p → start ws buffer m picks ≡ refused n p
-  pub begins : (next : ℕ) → r .end ≡ Next next → Started ws buffer m picks r
+  pub begins : (next : ℕ) → r .end ≡ Next next → Started ws buffer m picks r table

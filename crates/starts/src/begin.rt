@@ -8,13 +8,17 @@ use marking::pick::first_malformed;
 use marking::pick::first_unknown;
 use net::index::NetIndex;
 use word::size::at_most;
+ghost use mathlib.Core.Path.{_≡_};
+ghost use lib.ListN.{length};
 ghost use Rattle.starts.specs.Start.{IsStart};
 
-// Net, then the transitions of the picks, then the marking in the first m words of a buffer, then the picks.
-pub fn begin(net: &[u32], buffer: &[u32], m: usize, picks: &[u32]) -> NetIndex
-    ensures { λ r. ⌜ IsStart (now (net .entry)) (now (buffer .entry)) m (now (picks .entry)) r ⌝ }
+// Net, then the transitions of the picks, then the marking in the first m words of a buffer, then the picks. Where the parts of all transitions begin is
+// written to a table.
+pub fn begin(net: &[u32], buffer: &[u32], m: usize, picks: &[u32], table: &mut [usize]) -> NetIndex
+    requires { ⌜ length (now table) ≡ 2080 ⌝ }
+    ensures { λ r. ⌜ IsStart (now (net .entry)) (now (buffer .entry)) m (now (picks .entry)) r (now (table .exit)) ⌝ }
 {
-    let index = accept_net(net);
+    let index = accept_net(net, table);
     let end = index.end;
     let Skipped::Next(_) = end else {
         return index;

@@ -5,7 +5,7 @@ use Prim.Native.Nat.{ℕ, _+_, _≤_}
 use mathlib.Core.Bool.{Bool}
 use mathlib.Core.List.{List}
 use lib.IntN.{ℤ}
-use lib.ListN.{length, take, length-map}
+use lib.ListN.{length, take, drop, length-map}
 use Rattle.semantics.specs.declared.Tested.the-variants.{Refused as TestRefused}
 use Rattle.semantics.specs.Word.{Range, valueWord}
 use Rattle.semantics.specs.Expression.{bound}
@@ -69,8 +69,9 @@ module _ {ws : List ℕ} {t : ℕ} {ms : List ℕ} {s : Index} (p : Prepared ws 
       pub bound-lent : lent bs ≡ bound (bound-read .0)
       bound-lent = binding-lent bs (bound-read .0) (is-binding .words) (ranged-small ws (s .transition .variables) (s .position + 1) (bound-read .0) (rw variables-same (is-binding .ranged)))
 
-      pub test-answers : {u : Bool} → IsEnabledAt ws (take (s .places) (s .«places_at»)) (outlined s .guard) (outlined s .inputs) ms (s .begins) bs u → yesOrNo u ≡ testCall ws t ms bs
+      -- how many conjuncts are lent is told as a difference
+      pub test-answers : {u : Bool} (k : ℕ) → k ≡ s .transition .conjuncts → IsEnabledAt ws (take (s .places) (s .«places_at»)) (take k (drop 16 (s .own))) (outlined s .inputs) ms (s .begins) bs u → yesOrNo u ≡ testCall ws t ms bs
       unfolding testCall
-      test-answers f =
-          let e = enabled-told ws bs (p .net .places) (s .position) (p .transition) (p .after) (p .there) bound-length (take (s .places) (s .«places_at»)) (p .placed) (ap (λ (o : Outline). o .guard) (p .outlines)) (ap (λ (o : Outline). o .inputs) (p .outlines)) (p .entries) (p .end) (p .marked) (p .begins) (bound-read .0) bound-lent f in
+      test-answers k g f =
+          let e = enabled-told ws bs (p .net .places) (s .position) (p .transition) (p .after) (p .there) bound-length (take (s .places) (s .«places_at»)) (p .placed) (ap (λ (o : Outline). o .guard) (p .outlines)) (ap (λ (o : Outline). o .inputs) (p .outlines)) (p .entries) (p .end) (p .marked) (p .begins) (bound-read .0) bound-lent (rw g at f) in
           rw (p .same, bound-read .1) (ap yesOrNo e)

@@ -12,20 +12,14 @@ pub fn test(net: &[u32], transition: u32, marking: &[u32], binding: &[u32]) -> T
     ensures { λ r. ⌜ r ≡ testCall (now (net .entry)) transition (now (marking .entry)) (now (binding .entry)) ⌝ }
 {
     let mut places_at = [0usize; 64];
-    let mut ins = [0usize; 8];
-    let mut outs = [0usize; 8];
-    let mut guard = [0usize; 8];
-    let mut plan = [0usize; 8];
+    let mut own = [0usize; 64];
     let mut begins = [0usize; 65];
     let s = prepare(
         net,
         transition,
         marking,
         &mut places_at,
-        &mut ins,
-        &mut outs,
-        &mut guard,
-        &mut plan,
+        &mut own,
         &mut begins,
     );
     let end = s.end;
@@ -39,11 +33,12 @@ pub fn test(net: &[u32], transition: u32, marking: &[u32], binding: &[u32]) -> T
                     let places = s.places;
                     let conjuncts = t.conjuncts;
                     let inputs = t.inputs;
+                    let own = &own[..];
                     if is_enabled(
                         net,
                         &places_at[..places],
-                        &guard[..conjuncts],
-                        &ins[..inputs],
+                        &own[16..16 + conjuncts],
+                        &own[..inputs],
                         marking,
                         &begins[..],
                         binding,

@@ -12,89 +12,68 @@ use Rattle.menus.proofs.menu.menu.Tie as tie
 places-full : (c : tie.After-prepare) → length (c .prepare .last .1 .1 .1 .0) ≡ 64
 places-full c = c .prepare .kept .1 .1 .1 .0
 
-ins-full : (c : tie.After-prepare) → length (c .prepare .last .1 .1 .1 .1 .0) ≡ 8
-ins-full c = c .prepare .kept .1 .1 .1 .1 .0
+own-full : (c : tie.After-prepare) → length (c .prepare .last .1 .1 .1 .1 .0) ≡ 64
+own-full c = c .prepare .kept .1 .1 .1 .1 .0
 
-guard-full : (c : tie.After-prepare) → length (c .prepare .last .1 .1 .1 .1 .1 .1 .0) ≡ 8
-guard-full c = c .prepare .kept .1 .1 .1 .1 .1 .1 .0
-
-plan-full : (c : tie.After-prepare) → length (c .prepare .last .1 .1 .1 .1 .1 .1 .1 .0) ≡ 8
-plan-full c = c .prepare .kept .1 .1 .1 .1 .1 .1 .1 .0
-
-begins-full : (c : tie.After-prepare) → length (c .prepare .last .1 .1 .1 .1 .1 .1 .1 .1 .0) ≡ 65
-begins-full c = c .prepare .kept .1 .1 .1 .1 .1 .1 .1 .1 .0
+begins-full : (c : tie.After-prepare) → length (c .prepare .last .1 .1 .1 .1 .1 .0) ≡ 65
+begins-full c = c .prepare .kept .1 .1 .1 .1 .1 .0
 
 places-share : tie.Need-array-share-prefix-places-at
 places-share c =
-    let n = c .before .before .before .before .before .before .before .before .before in
-    let few = n .prepare .ensures .prepares _ (c .before .enum-told .given .1) .few in
+    let n = c .before .before .before .before .before .before .before in
+    let few = n .prepare .ensures .prepares _ (c .before .before .enum-told .given .1) .few in
     let l = places-full n in
     omega arith
 
 places-slice : tie.Need-slice-aggregate-list-bindings
 places-slice c =
-    let n = c .before .before .before .before .before .before .before .before .before .before in
-    let few = n .prepare .ensures .prepares _ (c .before .before .enum-told .given .1) .few in
+    let n = c .before .before .before .before .before .before .before .before in
+    let few = n .prepare .ensures .prepares _ (c .before .before .before .enum-told .given .1) .few in
     let l = places-full n in
     sym (length-take-le _ _ (omega arith))
 
-guard-share : tie.Need-array-share-prefix-guard
-guard-share c =
-    let n = c .before .before .before .before .before .before .before .before .before .before in
-    let few = n .prepare .ensures .prepares _ (c .before .before .enum-told .given .1) .few-conjuncts in
-    let l = guard-full n in
-    omega arith
+guard-end : tie.Need-add-list-bindings
+guard-end c = let few = c .before .before .before .before .before .before .before .before .prepare .ensures .prepares _ (c .before .before .before .enum-told .given .1) .few-conjuncts in omega arith
 
-guard-slice : tie.Need-slice-aggregate-list-bindings-2
-guard-slice c =
-    let n = c .before .before .before .before .before .before .before .before .before .before .before in
+guard-part : tie.Need-part-list-bindings-end
+guard-part c =
+    let n = c .before .before .before .before .before .before .before .before in
     let few = n .prepare .ensures .prepares _ (c .before .before .before .enum-told .given .1) .few-conjuncts in
-    let l = guard-full n in
-    sym (length-take-le _ _ (omega arith))
-
-ins-share : tie.Need-array-share-prefix-ins
-ins-share c =
-    let n = c .before .before .before .before .before .before .before .before .before .before .before in
-    let few = n .prepare .ensures .prepares _ (c .before .before .before .enum-told .given .1) .few-inputs in
-    let l = ins-full n in
+    let l = own-full n in
     omega arith
 
-ins-slice : tie.Need-slice-aggregate-list-bindings-3
+ins-slice : tie.Need-slice-aggregate-list-bindings-2
 ins-slice c =
-    let n = c .before .before .before .before .before .before .before .before .before .before .before .before in
-    let few = n .prepare .ensures .prepares _ (c .before .before .before .before .enum-told .given .1) .few-inputs in
-    let l = ins-full n in
+    let n = c .before .before .before .before .before .before .before .before .before .before in
+    let few = n .prepare .ensures .prepares _ (c .before .before .before .before .before .enum-told .given .1) .few-inputs in
+    let l = own-full n in
     sym (length-take-le _ _ (omega arith))
 
-plan-share : tie.Need-array-share-prefix-plan
-plan-share c =
-    let n = c .before .before .before .before .before .before .before .before .before .before .before .before in
-    let few = n .prepare .ensures .prepares _ (c .before .before .before .before .enum-told .given .1) .few-elements in
-    let l = plan-full n in
-    omega arith
+plan-end : tie.Need-add-list-bindings-2
+plan-end c = let few = c .before .before .before .before .before .before .before .before .before .before .prepare .ensures .prepares _ (c .before .before .before .before .before .enum-told .given .1) .few-elements in omega arith
 
-plan-slice : tie.Need-slice-aggregate-list-bindings-4
-plan-slice c =
-    let n = c .before .before .before .before .before .before .before .before .before .before .before .before .before in
+plan-part : tie.Need-part-list-bindings-end-2
+plan-part c =
+    let n = c .before .before .before .before .before .before .before .before .before .before in
     let few = n .prepare .ensures .prepares _ (c .before .before .before .before .before .enum-told .given .1) .few-elements in
-    let l = plan-full n in
-    sym (length-take-le _ _ (omega arith))
+    let l = own-full n in
+    omega arith
 
 list-bindings-requires : tie.Need-list-bindings-requires
 list-bindings-requires c κs =
-    let n = c .before .before .before .before .before .before .before .before .before .before .before .before .before .before .before in
-    prepared-world (n .prepare .ensures .prepares _ (c .before .before .before .before .before .before .before .enum-told .given .1)) (begins-full n)
+    let n = c .before .before .before .before .before .before .before .before .before .before .before .before .before in
+    prepared-world (n .prepare .ensures .prepares _ (c .before .before .before .before .before .before .before .before .enum-told .given .1)) (begins-full n)
 
 returns : tie.Need-returns
 returns c =
-    let n = c .before .before .before .before .before .before .before .before .before in
-    let a = n .before .before .before .before .before .before .before .before .before .before .args in
+    let n = c .before .before .before .before .before .before in
+    let a = n .before .before .before .before .before .before .before .args in
     menu-refused (a .net .now) (a .transition) (a .marking .now) (a .budget) (a .menu .now) (n .prepare .ensures) (c .before .end .given .1)
 
 returns-2 : tie.Need-returns-2
 returns-2 c =
-    let n = c .before .before .before .before .before .before .before .before .before .before .before .before .before .before .before .before .before .before in
-    menu-listed (n .prepare .ensures .prepares _ (c .before .before .before .before .before .before .before .before .before .before .enum-told .given .1)) (c .before .before .list-bindings .ensures)
+    let n = c .before .before .before .before .before .before .before .before .before .before .before .before .before .before .before .before in
+    menu-listed (n .prepare .ensures .prepares _ (c .before .before .before .before .before .before .before .before .before .before .before .enum-told .given .1)) (c .before .before .list-bindings .ensures)
 
 pub menu-spec : {M : Type 1} → statement M
 menu-spec =
@@ -103,20 +82,21 @@ menu-spec =
     (λ c. search needs)
     (λ c. search needs)
     (λ c. search needs)
-    (λ c. search needs)
-    (λ c. search needs)
-    (λ c. search needs)
     (λ c κs. search needs)
+    (λ c. search needs)
     (λ c. search needs)
     (λ c. search needs)
     places-share
     places-slice
-    guard-share
-    guard-slice
-    ins-share
+    guard-end
+    (λ c. search needs)
+    (λ c. search needs)
+    guard-part
     ins-slice
-    plan-share
-    plan-slice
+    plan-end
+    (λ c. search needs)
+    (λ c. search needs)
+    plan-part
     (λ c. search needs)
     list-bindings-requires
     returns

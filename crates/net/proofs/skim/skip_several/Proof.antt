@@ -1,44 +1,38 @@
--- `net::skim::skip_several` meets its contract: the loop of `Loops` that keeps positions, over the reader of one structure.
+-- `net::skim::skip_several` meets its contract: the loop of `Tables` that fills a part of a table, over the reader of one structure.
 use native.Mathlib.Omega.{arith}
-use mathlib.Core.Path.{_≡_, refl, _∙_}
 use Prim.Native.Nat.{_-_}
 use borrow.Author.Needs.{needs}
-use lib.ListN.{length, length-set}
 use Rattle.net.specs.Skim.{skimOne}
-use Rattle.net.proofs.Loops.{Collected, collected-start, collected-goes, looping}
+use Rattle.net.proofs.Tables.{Filled, filled-start, from-refused, written-long, filled-goes, filled-stops, filled-end}
 use Rattle.net.proofs.skim.skip_several.Statement.{statement}
 use Rattle.net.proofs.skim.skip_several.Tie as tie
 
 abbrev Inv-loop : tie.InvT-loop
-Inv-loop words widths variables k begins₀ n at i₀ next₀ begins i next = Collected (skimOne words widths variables k) n at i next begins × (length begins ≡ length begins₀)
+Inv-loop words widths variables k table₀ base n at i₀ next₀ table i next = Filled (skimOne words widths variables k) n at i next table₀ base table
 
 abbrev μ-loop : tie.MeasureT-loop
-μ-loop words widths variables k begins₀ n at i₀ next₀ begins i next = n - i
+μ-loop words widths variables k table₀ base n at i₀ next₀ table i next = n - i
 
 returns : tie.Need-returns Inv-loop μ-loop
-returns c = rw (c .enum-told .given .1)
+returns c = from-refused _ _ _ _ (c .enum-told .given .1)
 
 loop-holds : tie.Need-loop-holds Inv-loop μ-loop
-loop-holds c = (collected-start _ _ _ _, refl)
+loop-holds c = filled-start _ _ _ _ _
 
 same-length : tie.Need-same-length Inv-loop μ-loop
-same-length c =
-    let lp = c .before .before .before .before .before .loop in
-    length-set (lp .begins) (lp .i) _ ∙ lp .inv .1
+same-length c = written-long (c .before .before .before .before .before .loop .inv) _
 
 returns-2 : tie.Need-returns-2 Inv-loop μ-loop
-returns-2 c = rw (c .before .before .before .before .before .before .before .from .given .1) (search looping)
+returns-2 c = filled-stops (c .before .before .before .before .before .loop .inv) (omega arith) (c .before .before .before .skip-one .ensures) _ (c .before .m .given .1) (c .before .before .before .before .before .before .before .from .given .1)
 
 loop-again : tie.Need-loop-again Inv-loop μ-loop
-loop-again c =
-    let lp = c .before .before .before .before .before .loop in
-    (collected-goes (lp .inv .0) (omega arith) (c .before .before .before .skip-one .ensures) (omega arith) (c .before .p .given .1), length-set (lp .begins) (lp .i) _ ∙ lp .inv .1)
+loop-again c = filled-goes (c .before .before .before .before .before .loop .inv) (omega arith) (c .before .before .before .skip-one .ensures) (search needs) (c .before .p .given .1)
 
 same-length-2 : tie.Need-same-length-2 Inv-loop μ-loop
-same-length-2 c = c .before .loop .inv .1
+same-length-2 c = c .before .loop .inv .long
 
 returns-3 : tie.Need-returns-3 Inv-loop μ-loop
-returns-3 c = rw (c .before .before .before .from .given .1) (search looping)
+returns-3 c = filled-end (c .before .loop .inv) (omega arith) (c .before .before .before .from .given .1)
 
 pub skip-several-spec : {M : Type 1} → statement M
 skip-several-spec =
@@ -50,6 +44,7 @@ skip-several-spec =
     (λ c. search needs)
     returns
     loop-holds
+    (λ c. omega arith)
     (λ c. omega arith)
     (λ c. omega arith)
     (λ c κs. search needs)

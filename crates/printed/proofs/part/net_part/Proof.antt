@@ -13,18 +13,18 @@ returns c = net-past _ _ (c .if1 .taken)
 
 put-menu-requires : tie.Need-put-menu-requires
 put-menu-requires c κs =
-    let n = c .before .before .before .before .before .before .before .before .before .before in
-    net-ready _ _ (n .before .before .before .before .before .before .before .if1 .left) (n .prepare .ensures) (c .before .before .enum-told .given .1)
+    let n = c .before .before .before .before .before .before .before in
+    net-ready _ _ (n .before .before .before .before .if1 .left) (n .prepare .ensures) (c .before .before .enum-told .given .1)
 
 returns-2 : tie.Need-returns-2
 returns-2 c =
-    let n = c .before .before .before .before .before .before .before .before .before .before .before .before .before in
-    net-refused _ _ (n .before .before .before .before .before .before .before .if1 .left) (n .prepare .ensures) (c .before .before .before .before .before .end .given .1) (c .before .before .refusal-part .ensures)
+    let n = c .before .before .before .before .before .before .before .before .before .before in
+    net-refused _ _ (n .before .before .before .before .if1 .left) (n .prepare .ensures) (c .before .before .before .before .before .end .given .1) (c .before .before .refusal-part .ensures)
 
 returns-3 : tie.Need-returns-3
 returns-3 c =
-    let n = c .before .before .before .before .before .before .before .before .before .before .before .before .before in
-    net-menu _ _ (n .before .before .before .before .before .before .before .if1 .left) (n .prepare .ensures) (c .before .before .before .before .before .enum-told .given .1) (c .before .before .put-menu .ensures)
+    let n = c .before .before .before .before .before .before .before .before .before .before in
+    net-menu _ _ (n .before .before .before .before .if1 .left) (n .prepare .ensures) (c .before .before .before .before .before .enum-told .given .1) (c .before .before .put-menu .ensures)
 
 pub net-part-spec : {M : Type 1} → statement M
 net-part-spec =
@@ -33,9 +33,6 @@ net-part-spec =
     first-word
     (λ c. search needs)
     returns
-    (λ c. search needs)
-    (λ c. search needs)
-    (λ c. search needs)
     (λ c. search needs)
     (λ c. search needs)
     (λ c. search needs)

@@ -1,5 +1,6 @@
 -- `testing::test::test` meets its contract: each return is a rule of `Testing`. The tables that are lent keep their length.
 use mathlib.Core.Path.{_≡_, sym, ap, _∙_}
+use Prim.Native.Nat.{_+_, _-_}
 use native.Mathlib.Omega.{arith}
 use lib.ListN.{length}
 use lib.Seq.{length-take-le}
@@ -12,103 +13,88 @@ use Rattle.testing.proofs.test.test.Tie as tie
 places-full : (c : tie.After-prepare) → length (c .prepare .last .1 .1 .1 .0) ≡ 64
 places-full c = c .prepare .kept .1 .1 .1 .0
 
-ins-full : (c : tie.After-prepare) → length (c .prepare .last .1 .1 .1 .1 .0) ≡ 8
-ins-full c = c .prepare .kept .1 .1 .1 .1 .0
+own-full : (c : tie.After-prepare) → length (c .prepare .last .1 .1 .1 .1 .0) ≡ 64
+own-full c = c .prepare .kept .1 .1 .1 .1 .0
 
-guard-full : (c : tie.After-prepare) → length (c .prepare .last .1 .1 .1 .1 .1 .1 .0) ≡ 8
-guard-full c = c .prepare .kept .1 .1 .1 .1 .1 .1 .0
-
-begins-full : (c : tie.After-prepare) → length (c .prepare .last .1 .1 .1 .1 .1 .1 .1 .1 .0) ≡ 65
-begins-full c = c .prepare .kept .1 .1 .1 .1 .1 .1 .1 .1 .0
+begins-full : (c : tie.After-prepare) → length (c .prepare .last .1 .1 .1 .1 .1 .0) ≡ 65
+begins-full c = c .prepare .kept .1 .1 .1 .1 .1 .0
 
 add-read-binding : tie.Need-add-read-binding
-add-read-binding c = let inside = variables-inside (c .before .before .before .before .before .before .before .before .before .before .prepare .ensures .prepares _ (c .before .before .enum-told .given .1)) in omega arith
+add-read-binding c = let inside = variables-inside (c .before .before .before .before .before .before .before .prepare .ensures .prepares _ (c .before .before .enum-told .given .1)) in omega arith
 
 read-binding-requires : tie.Need-read-binding-requires
-read-binding-requires c κs = variables-inside (c .before .before .before .before .before .before .before .before .before .before .prepare .ensures .prepares _ (c .before .before .enum-told .given .1))
+read-binding-requires c κs = variables-inside (c .before .before .before .before .before .before .before .prepare .ensures .prepares _ (c .before .before .enum-told .given .1))
 
 places-share : tie.Need-array-share-prefix-places-at
 places-share c =
-    let n = c .before .before .before .before .before .before .before .before .before .before .before .before .before in
-    let few = n .prepare .ensures .prepares _ (c .before .before .before .before .before .enum-told .given .1) .few in
+    let n = c .before .before .before .before .before .before .before .before .before .before .before in
+    let few = n .prepare .ensures .prepares _ (c .before .before .before .before .before .before .enum-told .given .1) .few in
     let l = places-full n in
     omega arith
 
 places-slice : tie.Need-slice-aggregate-is-enabled
 places-slice c =
-    let n = c .before .before .before .before .before .before .before .before .before .before .before .before .before .before in
-    let few = n .prepare .ensures .prepares _ (c .before .before .before .before .before .before .enum-told .given .1) .few in
+    let n = c .before .before .before .before .before .before .before .before .before .before .before .before in
+    let few = n .prepare .ensures .prepares _ (c .before .before .before .before .before .before .before .enum-told .given .1) .few in
     let l = places-full n in
     sym (length-take-le _ _ (omega arith))
 
-guard-share : tie.Need-array-share-prefix-guard
-guard-share c =
-    let n = c .before .before .before .before .before .before .before .before .before .before .before .before .before .before in
-    let few = n .prepare .ensures .prepares _ (c .before .before .before .before .before .before .enum-told .given .1) .few-conjuncts in
-    let l = guard-full n in
-    omega arith
+add-guard : tie.Need-add-is-enabled
+add-guard c =
+    let few = c .before .before .before .before .before .before .before .before .before .before .before .before .prepare .ensures .prepares _ (c .before .before .before .before .before .before .before .enum-told .given .1) .few-conjuncts in
+    search needs
 
-guard-slice : tie.Need-slice-aggregate-is-enabled-2
-guard-slice c =
-    let n = c .before .before .before .before .before .before .before .before .before .before .before .before .before .before .before in
+guard-end : tie.Need-part-is-enabled-end
+guard-end c =
+    let n = c .before .before .before .before .before .before .before .before .before .before .before .before in
     let few = n .prepare .ensures .prepares _ (c .before .before .before .before .before .before .before .enum-told .given .1) .few-conjuncts in
-    let l = guard-full n in
-    sym (length-take-le _ _ (omega arith))
-
-ins-share : tie.Need-array-share-prefix-ins
-ins-share c =
-    let n = c .before .before .before .before .before .before .before .before .before .before .before .before .before .before .before in
-    let few = n .prepare .ensures .prepares _ (c .before .before .before .before .before .before .before .enum-told .given .1) .few-inputs in
-    let l = ins-full n in
+    let l = own-full n in
     omega arith
 
-ins-slice : tie.Need-slice-aggregate-is-enabled-3
+ins-slice : tie.Need-slice-aggregate-is-enabled-2
 ins-slice c =
-    let n = c .before .before .before .before .before .before .before .before .before .before .before .before .before .before .before .before in
-    let few = n .prepare .ensures .prepares _ (c .before .before .before .before .before .before .before .before .enum-told .given .1) .few-inputs in
-    let l = ins-full n in
+    let n = c .before .before .before .before .before .before .before .before .before .before .before .before .before .before in
+    let few = n .prepare .ensures .prepares _ (c .before .before .before .before .before .before .before .before .before .enum-told .given .1) .few-inputs in
+    let l = own-full n in
     sym (length-take-le _ _ (omega arith))
 
 is-enabled-requires : tie.Need-is-enabled-requires
 is-enabled-requires c κs =
-    let n = c .before .before .before .before .before .before .before .before .before .before .before .before .before .before .before .before .before in
-    let P = n .prepare .ensures .prepares _ (c .before .before .before .before .before .before .before .before .before .enum-told .given .1) in
+    let n = c .before .before .before .before .before .before .before .before .before .before .before .before .before .before .before in
+    let P = n .prepare .ensures .prepares _ (c .before .before .before .before .before .before .before .before .before .before .enum-told .given .1) in
     let few = P .few-inputs in
-    let l = ins-full n in
+    let l = own-full n in
     let k = length-take-le (n .prepare .result .transition .inputs) (n .prepare .last .1 .1 .1 .1 .0) (omega arith) in
     (P .fits, (begins-full n, omega arith))
 
 returns : tie.Need-returns
 returns c =
-    let b = c .before .before .before .before .before .before .before .before in
-    let n = b .before .before .before .before .before .before .before .before .before .before .before in
-    ap yesOrNo (sym (c .if1 .taken)) ∙ test-answers (n .prepare .ensures .prepares _ (b .before .before .before .enum-told .given .1)) (n .before .before .before .before .before .before .before .before .before .before .args .binding .now) (b .read-binding .result) (b .read-binding .ensures) (c .before .before .before .before .before .before .enum-told2 .given .1) (c .before .is-enabled .ensures)
+    let b = c .before .before .before .before .before .before .before .before .before in
+    let n = b .before .before .before .before .before .before .before .before in
+    ap yesOrNo (sym (c .if1 .taken)) ∙ test-answers (n .prepare .ensures .prepares _ (b .before .before .before .enum-told .given .1)) (n .before .before .before .before .before .before .before .args .binding .now) (b .read-binding .result) (b .read-binding .ensures) (c .before .before .before .before .before .before .before .enum-told2 .given .1) (16 + n .prepare .result .transition .conjuncts - 16) (omega arith) (c .before .is-enabled .ensures)
 
 returns-2 : tie.Need-returns-2
 returns-2 c =
-    let n = c .before .before .before .before .before .before .before .before .before in
-    let a = n .before .before .before .before .before .before .before .before .before .before .args in
+    let n = c .before .before .before .before .before .before in
+    let a = n .before .before .before .before .before .before .before .args in
     test-refused (a .net .now) (a .transition) (a .marking .now) (a .binding .now) (n .prepare .ensures) (c .before .end .given .1)
 
 returns-3 : tie.Need-returns-3
 returns-3 c =
     let b = c .before .before .before in
-    let n = b .before .before .before .before .before .before .before .before .before .before .before in
-    test-unbound (n .prepare .ensures .prepares _ (b .before .before .before .enum-told .given .1)) (n .before .before .before .before .before .before .before .before .before .before .args .binding .now) (b .read-binding .result) (b .read-binding .ensures) (c .before .m .given .1)
+    let n = b .before .before .before .before .before .before .before .before in
+    test-unbound (n .prepare .ensures .prepares _ (b .before .before .before .enum-told .given .1)) (n .before .before .before .before .before .before .before .args .binding .now) (b .read-binding .result) (b .read-binding .ensures) (c .before .m .given .1)
 
 returns-4 : tie.Need-returns-4
 returns-4 c =
-    let b = c .before .before .before .before .before .before .before .before in
-    let n = b .before .before .before .before .before .before .before .before .before .before .before in
-    ap yesOrNo (sym (c .if1 .left)) ∙ test-answers (n .prepare .ensures .prepares _ (b .before .before .before .enum-told .given .1)) (n .before .before .before .before .before .before .before .before .before .before .args .binding .now) (b .read-binding .result) (b .read-binding .ensures) (c .before .before .before .before .before .before .enum-told2 .given .1) (c .before .is-enabled .ensures)
+    let b = c .before .before .before .before .before .before .before .before .before in
+    let n = b .before .before .before .before .before .before .before .before in
+    ap yesOrNo (sym (c .if1 .left)) ∙ test-answers (n .prepare .ensures .prepares _ (b .before .before .before .enum-told .given .1)) (n .before .before .before .before .before .before .before .args .binding .now) (b .read-binding .result) (b .read-binding .ensures) (c .before .before .before .before .before .before .before .enum-told2 .given .1) (16 + n .prepare .result .transition .conjuncts - 16) (omega arith) (c .before .is-enabled .ensures)
 
 pub test-spec : {M : Type 1} → statement M
 test-spec =
     tie.close
     (tie.spec
-    (λ c. search needs)
-    (λ c. search needs)
-    (λ c. search needs)
     (λ c. search needs)
     (λ c. search needs)
     (λ c. search needs)
@@ -119,11 +105,13 @@ test-spec =
     read-binding-requires
     (λ c. search needs)
     (λ c. search needs)
+    (λ c. search needs)
     places-share
     places-slice
-    guard-share
-    guard-slice
-    ins-share
+    add-guard
+    (λ c. search needs)
+    (λ c. search needs)
+    guard-end
     ins-slice
     (λ c. search needs)
     is-enabled-requires
