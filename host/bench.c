@@ -94,8 +94,14 @@ static double time_of(void (*call)(void), unsigned times) {
     return best;
 }
 
+/* by turns, the least of each: both meet the same moments of a busy machine */
 static void compare(const char *what, unsigned times, void (*library)(void), void (*reference)(void)) {
-    double l = time_of(library, times), r = time_of(reference, times);
+    double l = 1e30, r = 1e30;
+    for (unsigned turn = 0; turn < 5; turn++) {
+        double a = time_of(library, times / 5), b = time_of(reference, times / 5);
+        l = a < l ? a : l;
+        r = b < r ? b : r;
+    }
     printf("%-44s %8u calls   library %10.1f ns   reference %10.1f ns   library / reference %6.2f\n", what, times, l, r, l / r);
 }
 
@@ -123,7 +129,7 @@ static void compare_menus(const char *what, unsigned times) {
     if (gimletlemon_menu(net->at, net->length, 0, marking.at, marking.length, UINT32_MAX, menu, MENU_WORDS, &found, &made, &position) != 0) exit(1);
     if (found != bindings || made != tries) exit(1);
     double l = 1e30, r = 1e30;
-    for (unsigned turn = 0; turn < 5; turn++) { /* by turns, so that both meet the same moments of a busy machine */
+    for (unsigned turn = 0; turn < 5; turn++) { /* by turns, as above */
         double a = time_of(library_menu, times / 5), b = time_of(reference_menu, times / 5);
         l = a < l ? a : l;
         r = b < r ? b : r;
