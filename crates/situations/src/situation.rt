@@ -37,8 +37,9 @@ fn refused_situation(end: Skipped) -> Situation
     }
 }
 
-// Net, then transition, then marking. Where the net's places begin, the transition's parts, eight of each kind in one table, and the entries of each place in
-// the marking, is written to three tables. The third serves first for the positions of the transitions, of which one is wanted.
+// Net, then transition, then marking. Where the net's places begin, the transition's parts, and the entries of each place in the marking, is written to three
+// tables. Of the second the first 32 numbers have the parts, eight for each kind; the reader uses the others for the transitions that are not wanted. The third
+// serves first for the positions of the transitions, of which one is wanted.
 pub fn prepare(
     net: &[u32],
     transition: u32,
