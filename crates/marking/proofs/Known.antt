@@ -1,10 +1,11 @@
 -- The rules of indexing a marking that is known to be accepted: the loop of `Rising`, of which every turn that refuses is ruled out by what is known, so
 -- that an entry's place and end can be told from its TOKEN word alone.
 use mathlib.Core.Path.{_≡_, refl, sym, ap, _∙_, subst}
-use Prim.Native.Nat.{ℕ, _+_, _-_, _/_, _%_, _≤_, _<_}
+use Prim.Native.Nat.{ℕ, zero, suc, _+_, _*_, _-_, _/_, _%_, _≤_, _<_}
 use mathlib.Core.Logic.{_⊎_, inl, inr}
 use mathlib.Core.Bool.{true, false}
 use mathlib.Core.List.{List, [], _∷_}
+use native.Mathlib.Nat.{suc-mul, zero-mul, eq-or-lt-of-le}
 use native.Mathlib.Omega.{arith}
 use lib.IntN.{ℤ}
 use lib.ListN.{length, getD}
@@ -21,7 +22,7 @@ use Rattle.net.specs.Skim.{changed}
 use Rattle.net.specs.Places.{widthAt, placesAt}
 use Rattle.net.proofs.Placed.{places-length, width-at}
 use Rattle.marking.specs.declared.entry.EntryRead.the-variants.{Entry as EntryAt, Refused as EntryRefused}
-use Rattle.marking.specs.Marked.{tokenIn, entryPlace, Begun, risesAfter, IsMarking, Accepted, Indexed}
+use Rattle.marking.specs.Marked.{tokenIn, entryPlace, Begun, risesAfter, IsMarking, Accepted, Indexed, Passes}
 use Rattle.marking.proofs.Rising.{entry-stands, SoFar, so-far-start, marking-ends, marking-refused, marking-unordered, marking-goes}
 
 -- the place of an entry, told from its TOKEN word
@@ -101,3 +102,36 @@ module _ (nws ats : List ℕ) {ws : List ℕ} (A : Accepted (placesAt nws ats) w
     last = at;
     so-far = subst (SoFar (placesAt nws ats) ws begins′ at token) ends (marking-goes (K .so-far) h {r = EntryAt token (a .next)} (sym (ap (changed entryPlace) (a .reads) ∙ ap (λ (q : ℕ). read q (a .next)) here)) refl {u = true} (sym (rw here at (a .rises))) refl l (let p = token-placed in omega arith) b);
   }
+
+-- ── Entries of one place, passed by their size ──
+
+pub passes-start : (ws : List ℕ) (from place size : ℕ) → Passes ws from place size from
+passes-start ws from place size = record { entries = 0; there = omega (arith, zero-mul size); same = λ j h. absurd (omega arith) }
+
+pub passes-turn : {ws : List ℕ} {from place size at : ℕ} → Passes ws from place size at → at < length ws → getD ws at 0 / 16384 % 256 ≡ place → Passes ws from place size (at + size)
+passes-turn {ws} {from} {place} {size} {at} P h e =
+    record {
+      entries = suc (P .entries);
+      there = let m = suc-mul (P .entries) size in let t = P .there in omega arith;
+      same = λ j l. by j (eq-or-lt-of-le (omega arith));
+    }
+  where
+    by : (j : ℕ) → (j ≡ P .entries) ⊎ (j < P .entries) → (from + j * size < length ws) × (getD ws (from + j * size) 0 / 16384 % 256 ≡ place)
+    by j (inl q) = let s : at ≡ from + j * size = P .there ∙ ap (λ (k : ℕ). from + k * size) (sym q) in (omega (arith, s), ap (λ (k : ℕ). getD ws k 0 / 16384 % 256) (sym s) ∙ e)
+    by j (inr l) = P .same j l
+
+-- a marking is known behind them
+known-passes : (nws ats : List ℕ) {ws : List ℕ} → Accepted (placesAt nws ats) ws → length ats ≤ 64 → {begins : List ℕ} {place from size : ℕ} (k : ℕ) → size ≡ 1 + widthAt nws (getD ats place 0) → ((j : ℕ) → j < k → (from + j * size < length ws) × (getD ws (from + j * size) 0 / 16384 % 256 ≡ place)) → Known (placesAt nws ats) ws begins place from → Known (placesAt nws ats) ws begins place (from + k * size)
+known-passes nws ats A few {begins} {place} {from} {size} zero s each K = subst (Known (placesAt nws ats) _ begins place) (omega (arith, zero-mul size)) K
+known-passes nws ats {ws} A few {begins} {place} {from} {size} (suc k) s each K =
+    let before = known-passes nws ats A few k s (λ j l. each j (omega arith)) K in
+    let t = each k (omega arith) in
+    let e : from + k * size + (1 + widthAt nws (getD ats (getD ws (from + k * size) 0 / 16384 % 256) 0)) ≡ from + suc k * size = ap (λ (q : ℕ). from + k * size + (1 + widthAt nws (getD ats q 0))) (t .1) ∙ (let m = suc-mul k size in omega arith) in
+    subst (Known (placesAt nws ats) ws begins place) e
+    (subst (λ (q : ℕ). Known (placesAt nws ats) ws begins q (from + k * size + (1 + widthAt nws (getD ats (getD ws (from + k * size) 0 / 16384 % 256) 0)))) (t .1)
+    (known-goes nws ats A before (t .0) {begins′ = begins} refl few (record { new = λ p l u. absurd (let q = t .1 in omega arith); old = λ p l. refl })))
+
+pub known-passed : (nws ats : List ℕ) {ws : List ℕ} → Accepted (placesAt nws ats) ws → length ats ≤ 64 → {begins : List ℕ} {place : ℕ} (at v : ℕ) {r : ℕ} → v ≡ widthAt nws (getD ats place 0) → Known (placesAt nws ats) ws begins place (at + (1 + widthAt nws (getD ats place 0))) → Passes ws (at + (1 + v)) place (1 + v) r → Known (placesAt nws ats) ws begins place r
+known-passed nws ats {ws} A few {begins} {place} at v e K P =
+    let K′ = subst (λ (q : ℕ). Known (placesAt nws ats) ws begins place (at + (1 + q))) (sym e) K in
+    subst (Known (placesAt nws ats) ws begins place) (sym (P .there)) (known-passes nws ats A few (P .entries) (ap (λ (q : ℕ). 1 + q) e) (P .same) K′)

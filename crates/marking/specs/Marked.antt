@@ -1,7 +1,7 @@
 -- What the code tells of a marking: its entries where they stand, and where the entries of a place begin.
 -- Rests on semantics/specs/Marking and colours/specs/Values.
 use mathlib.Core.Path.{_≡_}
-use Prim.Native.Nat.{ℕ, _+_, _≤_, _<_}
+use Prim.Native.Nat.{ℕ, _+_, _*_, _/_, _%_, _≤_, _<_}
 use mathlib.Core.Bool.{Bool, true, cond, _&&_}
 use mathlib.Core.List.{List, [], _∷_}
 use lib.Dec.{leb, ltb, eqb}
@@ -90,3 +90,9 @@ pub record Accepted (places : List Place) (ws : List ℕ) : Type 0 where
 pub record Indexed (places : List Place) (ws begins : List ℕ) : Type 0 where
   pub long : length begins ≡ 65
   pub of : (es : List Entry) (next : ℕ) → markingRead places ws ≡ read es next → Begins es begins
+
+-- a position after some entries of one place, each of so many words, that stand one behind the other
+pub record Passes (ws : List ℕ) (from place size r : ℕ) : Type 0 where
+  pub entries : ℕ
+  pub there : r ≡ from + entries * size
+  pub same : (j : ℕ) → j < entries → (from + j * size < length ws) × (getD ws (from + j * size) 0 / 16384 % 256 ≡ place)

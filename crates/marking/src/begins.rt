@@ -3,9 +3,26 @@
 use crate::index::begin_all;
 use word::fields::payload;
 ghost use mathlib.Core.Path.{_≡_};
+ghost use Prim.Native.Nat.{_≤_, _<_};
 ghost use lib.ListN.{length};
 ghost use Rattle.net.specs.Places.{placesAt, PlacesFit};
-ghost use Rattle.marking.specs.Marked.{Accepted, Indexed};
+ghost use Rattle.marking.specs.Marked.{Accepted, Indexed, Passes};
+
+// Where the entries of one place end, from a position on, each of so many words. The size is known, so that no entry waits for what the one before it
+// says: its TOKEN word only tells where to stop.
+fn pass_place(words: &[u32], from: usize, place: usize, size: usize) -> usize
+    requires { ⌜ (0 < size) × (size ≤ 5) ⌝ }
+    ensures { λ r. ⌜ Passes (now (words .entry)) from place size r ⌝ }
+{
+    let mut at = from;
+    while at < words.len() {
+        if (words[at] / 16384 % 256) as usize != place {
+            return at;
+        }
+        at += size;
+    }
+    at
+}
 
 // The beginnings in an accepted marking on a net whose places stand at these positions.
 pub fn index_marking(net: &[u32], places: &[usize], words: &[u32], begins: &mut [usize; 65])
@@ -21,7 +38,8 @@ pub fn index_marking(net: &[u32], places: &[usize], words: &[u32], begins: &mut 
         let p = (words[at] / 16384 % 256) as usize;
         begin_all(&mut begins[..], place + 1, p + 1, at);
         place = p;
-        at += 1 + payload(net[places[p]]) as usize;
+        let size = 1 + payload(net[places[p]]) as usize;
+        at = pass_place(words, at + size, p, size);
     }
     begin_all(&mut begins[..], place + 1, 65, at);
 }

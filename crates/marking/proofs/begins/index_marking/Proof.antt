@@ -6,8 +6,9 @@ use lib.Seq.{getD-set-same}
 use native.Mathlib.Omega.{arith}
 use borrow.Author.Needs.{needs}
 use Rattle.net.specs.Places.{placesAt}
+use Rattle.net.proofs.Placed.{fits-at}
 use Rattle.marking.proofs.Entries.{place-inside}
-use Rattle.marking.proofs.Known.{Known, known-start, known-end, token-placed, token-inside, known-goes}
+use Rattle.marking.proofs.Known.{Known, known-start, known-end, token-placed, token-inside, known-goes, known-passed}
 use Rattle.marking.proofs.begins.index_marking.Statement.{statement}
 use Rattle.marking.proofs.begins.index_marking.Tie as tie
 
@@ -35,14 +36,17 @@ mul-payload-2 c = omega (arith, place-inside ((c .before .before .before .before
 shared-slice-read-payload-2 : tie.Need-shared-slice-read-payload-2 Inv-loop μ-loop
 shared-slice-read-payload-2 c = place-inside ((c .before .before .before .before .before .before .before .before .before .before .pre) .0) (token-placed ((c .before .before .before .before .before .before .before .before .before .before .args) .net .now) ((c .before .before .before .before .before .before .before .before .before .before .args) .places .now) ((c .before .before .before .before .before .before .before .before .before .before .pre) .1 .1) ((c .before .before .before .before .before .before .loop) .inv .0) ((c .before .before .before .before .before .loop-test) .taken))
 
-add-at-2 : tie.Need-add-at-2 Inv-loop μ-loop
-add-at-2 c = let i = token-inside ((c .before .before .before .before .before .before .before .before .before .before .before .args) .net .now) ((c .before .before .before .before .before .before .before .before .before .before .before .args) .places .now) ((c .before .before .before .before .before .before .before .before .before .before .before .pre) .1 .1) ((c .before .before .before .before .before .before .before .loop) .inv .0) ((c .before .before .before .before .before .before .loop-test) .taken) in let e = (c .payload) .ensures in omega arith
+add-pass-place : tie.Need-add-pass-place Inv-loop μ-loop
+add-pass-place c = let i = token-inside ((c .before .before .before .before .before .before .before .before .before .before .before .args) .net .now) ((c .before .before .before .before .before .before .before .before .before .before .before .args) .places .now) ((c .before .before .before .before .before .before .before .before .before .before .before .pre) .1 .1) ((c .before .before .before .before .before .before .before .loop) .inv .0) ((c .before .before .before .before .before .before .loop-test) .taken) in let e = (c .payload) .ensures in omega arith
+
+pass-place-requires : tie.Need-pass-place-requires Inv-loop μ-loop
+pass-place-requires c κs = let n = fits-at ((c .before .before .before .before .before .before .before .before .before .before .before .pre) .0) _ (token-placed ((c .before .before .before .before .before .before .before .before .before .before .before .args) .net .now) ((c .before .before .before .before .before .before .before .before .before .before .before .args) .places .now) ((c .before .before .before .before .before .before .before .before .before .before .before .pre) .1 .1) ((c .before .before .before .before .before .before .before .loop) .inv .0) ((c .before .before .before .before .before .before .loop-test) .taken)) .narrow in let e = (c .payload) .ensures in (omega arith, omega arith)
 
 loop-less : tie.Need-loop-less Inv-loop μ-loop
-loop-less c = let i = token-inside ((c .before .before .before .before .before .before .before .before .before .before .before .args) .net .now) ((c .before .before .before .before .before .before .before .before .before .before .before .args) .places .now) ((c .before .before .before .before .before .before .before .before .before .before .before .pre) .1 .1) ((c .before .before .before .before .before .before .before .loop) .inv .0) ((c .before .before .before .before .before .before .loop-test) .taken) in let e = (c .payload) .ensures in omega arith
+loop-less c = let p = (c .pass-place) .ensures .there in let e = (c .before .payload) .ensures in omega arith
 
 loop-again : tie.Need-loop-again Inv-loop μ-loop
-loop-again c = let k = known-goes ((c .before .before .before .before .before .before .before .before .before .before .before .args) .net .now) ((c .before .before .before .before .before .before .before .before .before .before .before .args) .places .now) ((c .before .before .before .before .before .before .before .before .before .before .before .pre) .1 .1) ((c .before .before .before .before .before .before .before .loop) .inv .0) ((c .before .before .before .before .before .before .loop-test) .taken) ((c .before .before .before .begin-all) .kept .0) ((c .before .before .before .before .before .before .before .before .before .before .before .pre) .0 .few) ((c .before .before .before .begin-all) .ensures) in (rw ((c .payload) .ensures .0) k, (c .before .before .before .begin-all) .kept .0 ∙ (c .before .before .before .before .before .before .before .loop) .inv .1)
+loop-again c = let k = known-goes ((c .before .before .before .before .before .before .before .before .before .before .before .before .args) .net .now) ((c .before .before .before .before .before .before .before .before .before .before .before .before .args) .places .now) ((c .before .before .before .before .before .before .before .before .before .before .before .before .pre) .1 .1) ((c .before .before .before .before .before .before .before .before .loop) .inv .0) ((c .before .before .before .before .before .before .before .loop-test) .taken) ((c .before .before .before .before .begin-all) .kept .0) ((c .before .before .before .before .before .before .before .before .before .before .before .before .pre) .0 .few) ((c .before .before .before .before .begin-all) .ensures) in (known-passed ((c .before .before .before .before .before .before .before .before .before .before .before .before .args) .net .now) ((c .before .before .before .before .before .before .before .before .before .before .before .before .args) .places .now) ((c .before .before .before .before .before .before .before .before .before .before .before .before .pre) .1 .1) ((c .before .before .before .before .before .before .before .before .before .before .before .before .pre) .0 .few) _ _ ((c .before .payload) .ensures .0) k ((c .pass-place) .ensures), (c .before .before .before .before .begin-all) .kept .0 ∙ (c .before .before .before .before .before .before .before .before .loop) .inv .1)
 
 add-begin-all-3 : tie.Need-add-begin-all-3 Inv-loop μ-loop
 add-begin-all-3 c = let few = (c .before .before .loop) .inv .0 .so-far .few in omega arith
@@ -73,8 +77,9 @@ index-marking-spec =
     shared-slice-read-payload-2
     (λ c κs. search needs)
     (λ c. search needs)
-    (λ c. search needs)
-    add-at-2
+    (λ c. omega arith)
+    add-pass-place
+    pass-place-requires
     loop-less
     loop-again
     add-begin-all-3
