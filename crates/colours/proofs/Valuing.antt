@@ -1,16 +1,15 @@
 -- The rules of passing over values: what is still ahead is what was ahead at first; each turn takes one word and one range.
 use mathlib.Core.Path.{_≡_, refl, sym, ap, _∙_}
-use Prim.Native.Nat.{ℕ, suc, _+_, _-_, _≤_, _<_, _/_, _%_, _^_}
+use Prim.Native.Nat.{ℕ, suc, _+_, _-_, _≤_, _<_, _%_, _^_}
 use mathlib.Core.Bool.{Bool, true, false, not}
 use mathlib.Core.List.{List, _∷_}
 use borrow.Author.Needs.{needs}
 use borrow.Author.Tests.{lt-ltb, not-true, not-false}
 use native.Mathlib.Omega.{arith}
 use lib.IntN.{ℤ}
-use lib.Signed.{leZ}
 use lib.ListN.{getD}
 use Rattle.semantics.specs.Refusal.{badWord}
-use Rattle.semantics.specs.Word.{signed, Range}
+use Rattle.semantics.specs.Word.{signed, Range, within}
 use Rattle.semantics.specs.Reading.{Reading, read, refused, then, demand, word, valuesIn}
 use Rattle.word.specs.Fields.{rangeWord}
 use Rattle.expression.specs.Skip.{forget}
@@ -20,26 +19,18 @@ use Rattle.kinds.specs.Taken.{fitsKind, IsTaken}
 use Rattle.net.proofs.Structures.{stricter, word-refused, word-taken, next-fits}
 use Rattle.net.specs.Places.{rangesFrom}
 use Rattle.semantics.proofs.Spans.{valueIn}
+use Rattle.colours.specs.Code.{ofDigit}
 
 -- a VALUE word in a range, told from a word of that kind
 value-word : (ws : List ℕ) (r : Range) (at : ℕ) → word ws 0xC (valueIn r) at ≡ then (word ws 0xC (fitsKind 0xC) at) (λ p next. demand (valueIn r p) at (read p next))
 unfolding fitsKind
 value-word ws r at = stricter ws 0xC (fitsKind 0xC) (valueIn r) (λ p. refl) at
 
--- the test of the bits, then the range
-module _ (p range : ℕ) {t : Bool} (h : p < 16384) (g : t ≡ leZ (signed (range / 16384 % 16384)) (signed (p % 16384))) where
-  pub value-below : not t ≡ true → false ≡ valueIn (rangeWord range) p
-  value-below d =
-      let s : p % 16384 ≡ p = omega arith in
-      let e : leZ (signed (range / 16384 % 16384)) (signed p) ≡ false = ap (λ (v : ℕ). leZ (signed (range / 16384 % 16384)) (signed v)) (sym s) ∙ sym g ∙ not-true _ d in
-      rw (lt-ltb p (2 ^ 14) h, e)
-
-  pub value-above : {u : Bool} → not t ≡ false → u ≡ leZ (signed (p % 16384)) (signed (range % 16384)) → u ≡ valueIn (rangeWord range) p
-  value-above d i =
-      let s : p % 16384 ≡ p = omega arith in
-      let q : range / 1 ≡ range = omega arith in
-      let e : leZ (signed (range / 16384 % 16384)) (signed p) ≡ true = ap (λ (v : ℕ). leZ (signed (range / 16384 % 16384)) (signed v)) (sym s) ∙ sym g ∙ not-false _ d in
-      rw (lt-ltb p (2 ^ 14) h, e, q) (i ∙ ap (λ (v : ℕ). leZ (signed v) (signed (range % 16384))) s)
+-- the test of the bits, then the digit in the range
+pub value-digit : (p range d : ℕ) {t : Bool} → p < 16384 → ofDigit d ≡ signed (p % 16384) → t ≡ within (rangeWord range) (ofDigit d) → t ≡ valueIn (rangeWord range) p
+value-digit p range d h e g =
+    let s : p % 16384 ≡ p = omega arith in
+    rw (lt-ltb p (2 ^ 14) h) (g ∙ ap (within (rangeWord range)) (e ∙ ap signed s))
 
 forget-cons : (z : ℤ) (x : Reading (List ℤ)) → forget (then x (λ vs next. read (z ∷ vs) next)) ≡ forget x
 forget-cons z (read vs next) = refl

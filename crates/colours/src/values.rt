@@ -1,25 +1,17 @@
 // VALUE words held against RANGE words of the net: the components of an entry, and the values of a binding.
+use crate::code::digit_of;
+use crate::range::digit_in;
 use expression::read::Skipped;
 use kinds::take::Taken;
 use kinds::take::take;
-use word::fields::signed;
 ghost use mathlib.Core.Path.{_≡_};
-ghost use Prim.Native.Nat.{_≤_, _+_, _%_};
+ghost use Prim.Native.Nat.{_≤_, _+_};
 ghost use lib.ListN.{length};
-ghost use lib.Signed.{leZ};
-ghost use Rattle.semantics.specs.Word.{signed};
 ghost use Rattle.semantics.specs.Reading.{valuesIn};
 ghost use Rattle.expression.specs.Skip.{forget, skipped};
 ghost use Rattle.word.specs.Fields.{rangeWord};
 ghost use Rattle.net.specs.Places.{rangesFrom};
 ghost use Rattle.semantics.proofs.Spans.{valueIn};
-
-// Whether the value of the low 14 bits of one word is at most that of another.
-fn value_at_most(a: u32, b: u32) -> bool
-    ensures { λ r. ⌜ r ≡ leZ (signed (a % 16384)) (signed (b % 16384)) ⌝ }
-{
-    signed(a) <= signed(b)
-}
 
 // Whether the 28 bits of a VALUE word are a value in the range of a RANGE word.
 fn fits_range(p: u32, range: u32) -> bool
@@ -28,10 +20,7 @@ fn fits_range(p: u32, range: u32) -> bool
     if 16384 <= p {
         return false;
     }
-    if !value_at_most(range / 16384, p) {
-        return false;
-    }
-    value_at_most(p, range)
+    digit_in(range, digit_of(p))
 }
 
 // Passes over n VALUE words, each in the range of one of the n RANGE words of the net from a position on.
