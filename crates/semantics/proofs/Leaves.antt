@@ -46,7 +46,7 @@ pub record SetTo (ranges : List Range) (p : Partial) (n : ℕ) (z : ℤ) (q : Pa
   pub inside : within range z ≡ true
   pub set-to : q ≡ set p n (some z)
 
-new-set : (ranges : List Range) (p q : Partial) (n : ℕ) (z : ℤ) → bindNew p n (getElem? ranges n) z ≡ some q → SetTo ranges p n z q
+pub new-set : (ranges : List Range) (p q : Partial) (n : ℕ) (z : ℤ) → bindNew p n (getElem? ranges n) z ≡ some q → SetTo ranges p n z q
 new-set ranges p q n z h = by (getElem? ranges n) refl h
   where
     inner : (r : Range) → getElem? ranges n ≡ some r → (within r z ≡ true) ⊎ (within r z ≡ false) → cond (within r z) (some (set p n (some z))) none ≡ some q → SetTo ranges p n z q
