@@ -30,15 +30,15 @@ fn alone(net: &[u32], inputs: &[usize], k: usize) -> bool
     ensures { λ r. ⌜ AloneIf (now (net .entry)) (now (inputs .entry)) k r ⌝ }
 {
     let w = net[inputs[k]];
-    let mut j = 0;
-    while j < inputs.len() {
-        if j == k {
-            j += 1;
+    let mut i = 0;
+    while i < inputs.len() {
+        if i == k {
+            i += 1;
         } else {
-            if net[inputs[j]] == w {
+            if net[inputs[i]] == w {
                 return false;
             }
-            j += 1;
+            i += 1;
         }
     }
     true

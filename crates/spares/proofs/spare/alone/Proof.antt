@@ -9,10 +9,10 @@ use Rattle.spares.proofs.spare.alone.Statement.{statement}
 use Rattle.spares.proofs.spare.alone.Tie as tie
 
 abbrev Inv-loop : tie.InvT-loop
-Inv-loop net inputs k w j₀ j = IsAlone net inputs k j
+Inv-loop net inputs k w i₀ i = IsAlone net inputs k i
 
 abbrev μ-loop : tie.MeasureT-loop
-μ-loop net inputs k w j₀ j = length inputs - j
+μ-loop net inputs k w i₀ i = length inputs - i
 
 loop-again-2 : tie.Need-loop-again-2 Inv-loop μ-loop
 loop-again-2 c = alone-turn ((c .before .before .before .before .before .loop) .inv) refl ((c .if2) .left)
