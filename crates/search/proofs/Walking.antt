@@ -27,8 +27,7 @@ use Rattle.elements.specs.Bound.{sorted}
 use Rattle.rows.specs.Rows.{valuesOfWords, IsValue, Listing, listingOf}
 use Rattle.arrivals.specs.declared.step.Step.{Step}
 use Rattle.tries.specs.Partial.{partialOf, IsTried, IsSaved}
-use Rattle.matches.specs.Known.{Knows}
-use Rattle.arrivals.specs.Step.{Safe, Ready, triesBy, IsArrival}
+use Rattle.arrivals.specs.Step.{Noted, Safe, Ready, triesBy, IsArrival}
 use Rattle.arrivals.specs.World.{World}
 use Rattle.arrivals.proofs.Tries.{arrival-ready, arrival-tries, tries-length}
 use Rattle.leaves.specs.declared.progress.Progress.{Progress}
@@ -73,41 +72,41 @@ module _ {ws ps : List ℕ} {position v : ℕ} {inputs conjuncts elements ms beg
   -- ── At an element ──
 
   -- the tries of a step, and what they come to
-  pub record Stepping (step : Step) : Type 0 where
+  pub record Stepping (parts known : List ℕ) (step : Step) : Type 0 where
     pub cost : costFrom s (drop d (s .transition .plan)) (partialOf v b) ≡ countTries (costFrom s (drop (d + 1) (s .transition .plan))) (tries houseTable (s .net) (s .transition) (s .counts) (sorted (step .element .sort)) (partialOf v b))
     pub rows : rowsFrom s (drop d (s .transition .plan)) (partialOf v b) ≡ rowsOver (rowsFrom s (drop (d + 1) (s .transition .plan))) (tries houseTable (s .net) (s .transition) (s .counts) (sorted (step .element .sort)) (partialOf v b))
     pub count : length (tries houseTable (s .net) (s .transition) (s .counts) (sorted (step .element .sort)) (partialOf v b)) ≡ step .count
-    pub same : triesBy ws (position + 1) v ms step (partialOf v b) ≡ tries houseTable (s .net) (s .transition) (s .counts) (sorted (step .element .sort)) (partialOf v b)
+    pub same : triesBy ws (position + 1) v ms step parts (partialOf v b) ≡ tries houseTable (s .net) (s .transition) (s .counts) (sorted (step .element .sort)) (partialOf v b)
     pub sound : (q : Partial) (i : ℕ) → i < length (tries houseTable (s .net) (s .transition) (s .counts) (sorted (step .element .sort)) (partialOf v b)) → getD (tries houseTable (s .net) (s .transition) (s .counts) (sorted (step .element .sort)) (partialOf v b)) i none ≡ some q → Sound (s .transition) (drop (d + 1) (s .transition .plan)) q
     pub safe : Safe ms v step
     pub ready : Ready ws v step
-    pub knows : Knows v b (step .parts) (step .known)
+    pub noted : Noted v b parts known
 
-  pub stepping : {e : CodeElement} {step : Step} → d < length elements → sorted (e .sort) ≡ sortOf (bits 8 9 (payload (getD ws (getD elements d 0) 0))) (bits 0 7 (payload (getD ws (getD elements d 0) 0))) → IsArrival ws ps position v inputs conjuncts ms begins e b step → Stepping step
-  stepping {e} {step} h k A =
+  pub stepping : {e : CodeElement} {parts known : List ℕ} {step : Step} → d < length elements → sorted (e .sort) ≡ sortOf (bits 8 9 (payload (getD ws (getD elements d 0) 0))) (bits 0 7 (payload (getD ws (getD elements d 0) 0))) → IsArrival ws ps position v inputs conjuncts ms begins e b parts known step → Stepping parts known step
+  stepping {e} {parts} {known} {step} h k A =
       let n = next-element W d h in
       let S′ = subst (λ (es : List Element). Sound (s .transition) es (partialOf v b)) (n .ahead) S in
       let f = sound-fits S′ in
       let g : sorted (e .sort) ≡ n .element .sort = k ∙ sym (n .there .sort) in
       let j : sorted (step .element .sort) ≡ sorted (e .sort) = ap (λ (x : CodeElement). sorted (x .sort)) (A .element) in
-      let t : triesBy ws (position + 1) v ms step (partialOf v b) ≡ tries houseTable (s .net) (s .transition) (s .counts) (sorted (e .sort)) (partialOf v b) = arrival-tries W A (partialOf v b) (f .0) (f .1 .0) (rw g (f .1 .1)) in
-      let u : triesBy ws (position + 1) v ms step (partialOf v b) ≡ tries houseTable (s .net) (s .transition) (s .counts) (sorted (step .element .sort)) (partialOf v b) = t ∙ ap (λ x. tries houseTable (s .net) (s .transition) (s .counts) x (partialOf v b)) (sym j) in
+      let t : triesBy ws (position + 1) v ms step parts (partialOf v b) ≡ tries houseTable (s .net) (s .transition) (s .counts) (sorted (e .sort)) (partialOf v b) = arrival-tries W A (partialOf v b) (f .0) (f .1 .0) (rw g (f .1 .1)) in
+      let u : triesBy ws (position + 1) v ms step parts (partialOf v b) ≡ tries houseTable (s .net) (s .transition) (s .counts) (sorted (step .element .sort)) (partialOf v b) = t ∙ ap (λ x. tries houseTable (s .net) (s .transition) (s .counts) x (partialOf v b)) (sym j) in
       let o : tries houseTable (s .net) (s .transition) (s .counts) (n .element .sort) (partialOf v b) ≡ tries houseTable (s .net) (s .transition) (s .counts) (sorted (step .element .sort)) (partialOf v b) = ap (λ x. tries houseTable (s .net) (s .transition) (s .counts) x (partialOf v b)) (sym (j ∙ g)) in
       record {
         cost = ap (λ (es : List Element). costFrom s es (partialOf v b)) (n .ahead) ∙ cost-step s (n .element) (drop (d + 1) (s .transition .plan)) (partialOf v b) ∙ ap (countTries (costFrom s (drop (d + 1) (s .transition .plan)))) o;
         rows = ap (λ (es : List Element). rowsFrom s es (partialOf v b)) (n .ahead) ∙ rows-step s (n .element) (drop (d + 1) (s .transition .plan)) (partialOf v b) ∙ ap (rowsOver (rowsFrom s (drop (d + 1) (s .transition .plan)))) o;
-        count = ap length (sym u) ∙ tries-length ws (position + 1) v ms step (partialOf v b);
+        count = ap length (sym u) ∙ tries-length ws (position + 1) v ms step parts (partialOf v b);
         same = u;
         sound = λ q i l x. sound-next houseTable (s .net) (s .counts) S′ q (subst (λ (os : List (Option Partial)). List·Memᴰ (some q) os) (sym o) (number-member (tries houseTable (s .net) (s .transition) (s .counts) (sorted (step .element .sort)) (partialOf v b)) i none (some q) l x));
         safe = A .safe;
         ready = arrival-ready W A;
-        knows = A .knows;
+        noted = A .noted;
       }
 
   -- a try of the code from slots that are equal, among them
-  module _ {step : Step} (P : Stepping step) (i : ℕ) {b₁ : List ℕ} (e : b₁ ≡ b) {on : Bool} {b′ : List ℕ} (x : IsTried v (getD (triesBy ws (position + 1) v ms step (partialOf v b₁)) i none) b₁ on b′) where
+  module _ {parts known : List ℕ} {step : Step} (P : Stepping parts known step) (i : ℕ) {b₁ : List ℕ} (e : b₁ ≡ b) {on : Bool} {b′ : List ℕ} (x : IsTried v (getD (triesBy ws (position + 1) v ms step parts (partialOf v b₁)) i none) b₁ on b′) where
     told : getD (tries houseTable (s .net) (s .transition) (s .counts) (sorted (step .element .sort)) (partialOf v b)) i none ≡ given on (partialOf v b′)
-    told = ap (λ (os : List (Option Partial)). getD os i none) (sym (P .same)) ∙ ap (λ (l : List ℕ). getD (triesBy ws (position + 1) v ms step (partialOf v l)) i none) (sym e) ∙ sym (x .same)
+    told = ap (λ (os : List (Option Partial)). getD os i none) (sym (P .same)) ∙ ap (λ (l : List ℕ). getD (triesBy ws (position + 1) v ms step parts (partialOf v l)) i none) (sym e) ∙ sym (x .same)
 
     pub try-on : on ≡ true → getD (tries houseTable (s .net) (s .transition) (s .counts) (sorted (step .element .sort)) (partialOf v b)) i none ≡ some (partialOf v b′)
     try-on f = told ∙ ap (λ (u : Bool). given u (partialOf v b′)) f
@@ -127,6 +126,6 @@ module _ {ws ps : List ℕ} {position v : ℕ} {inputs conjuncts elements ms beg
   pub kept-of : {b₁ saved : List ℕ} → b₁ ≡ b → IsSaved b saved → IsSaved b₁ saved
   kept-of {saved = saved} e k = subst (λ (l : List ℕ). IsSaved l saved) (sym e) k
 
-  -- what is known of components, under slots that are equal
-  pub knows-of : {step : Step} {b₁ : List ℕ} → Stepping step → b₁ ≡ b → Knows v b₁ (step .parts) (step .known)
-  knows-of {step} P e = subst (λ (l : List ℕ). Knows v l (step .parts) (step .known)) (sym e) (P .knows)
+  -- the words that were lent, under slots that are equal
+  pub noted-of : {parts known : List ℕ} {step : Step} {b₁ : List ℕ} → Stepping parts known step → b₁ ≡ b → Noted v b₁ parts known
+  noted-of {parts} {known} P e = subst (λ (l : List ℕ). Noted v l parts known) (sym e) (P .noted)

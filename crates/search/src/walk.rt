@@ -70,6 +70,8 @@ pub fn walk(
             s,
         );
     }
+    let mut parts = [0u32; 4];
+    let mut known = [0u32; 4];
     let step = arrive(
         net,
         places,
@@ -81,6 +83,8 @@ pub fn walk(
         begins,
         element_at(net, elements[depth]),
         slots,
+        &mut parts,
+        &mut known,
     );
     let saved = save(slots);
     let mut cur = s;
@@ -98,6 +102,8 @@ pub fn walk(
             variables,
             marking,
             step,
+            &parts,
+            &known,
             slots,
             &saved,
             i,
