@@ -4,7 +4,7 @@ use mathlib.Core.Path.{_≡_, sym, ap, _∙_, subst}
 use mathlib.Core.Bool.{Bool, true, false}
 use mathlib.Core.List.{List, [], map, List·Memᴰ}
 use mathlib.Core.Option.{Option, none, some}
-use Prim.Native.Nat.{ℕ, _+_, _<_}
+use Prim.Native.Nat.{ℕ, _+_, _≤_, _<_}
 use native.Mathlib.Omega.{arith}
 use lib.IntN.{ℤ}
 use lib.ListN.{length, getD, take, drop, drop-of-length-le}
@@ -21,6 +21,7 @@ use Rattle.semantics.specs.Calls.{Situation}
 use Rattle.semantics.proofs.Members.{number-member}
 use Rattle.semantics.proofs.Leaves.{Sound, sound-fits, sound-next, sound-leaf}
 use Rattle.semantics.proofs.Menu.{binding-full}
+use Rattle.net.specs.Places.{PlacesFit}
 use Rattle.occurrence.specs.Answers.{IsEnabledAt}
 use Rattle.elements.specs.declared.element.Element.{Element as CodeElement}
 use Rattle.elements.specs.Bound.{sorted}
@@ -32,9 +33,9 @@ use Rattle.arrivals.specs.World.{World}
 use Rattle.arrivals.proofs.Tries.{arrival-ready, arrival-tries, tries-length}
 use Rattle.leaves.specs.declared.progress.Progress.{Progress}
 use Rattle.search.specs.Search.{costFrom, rowsFrom}
-use Rattle.leaves.specs.Leaf.{Unspent, Ended, IsLeaf}
+use Rattle.leaves.specs.Leaf.{Held, Unspent, Ended, IsLeaf}
 use Rattle.search.proofs.Trying.{rowsOver}
-use Rattle.search.proofs.Worlds.{next-element, as-many}
+use Rattle.search.proofs.Worlds.{few-inputs, next-element, as-many}
 use Rattle.search.proofs.Values.{slots-values, enabled-full}
 use Rattle.search.proofs.Steps.{cost-step, rows-step, cost-leaf, rows-leaf}
 
@@ -42,6 +43,26 @@ use Rattle.search.proofs.Steps.{cost-step, rows-step, cost-leaf, rows-l
 pub ended-same : {w most budget n : ℕ} {m : List ℕ} {t : ℕ} {l : Listing} {cost : ℕ} {rows : List (List ℤ)} {s′ : Progress} {m′ : List ℕ} {cost′ : ℕ} {rows′ : List (List ℤ)} → cost′ ≡ cost → rows′ ≡ rows → Ended w most budget n m t l cost rows s′ m′ → Ended w most budget n m t l cost′ rows′ s′ m′
 ended-same {w} {most} {budget} {n} {m} {t} {l} {cost} {rows} {s′} {m′} {cost′} {rows′} e f h =
     subst (λ (k : ℕ). Ended w most budget n m t l k rows′ s′ m′) (sym e) (subst (λ (rs : List (List ℤ)). Ended w most budget n m t l cost rs s′ m′) (sym f) h)
+
+-- a try that went on, and what the rest of the plan is handed
+pub record Onward (s : Situation) (v d : ℕ) (b : List ℕ) (most budget : ℕ) (cur : Progress) (m : List ℕ) : Type 0 where
+  pub sound : Sound (s .transition) (drop (d + 1) (s .transition .plan)) (partialOf v b)
+  pub long : length b ≡ v
+  pub held : Held v most (cur .rows) m
+  pub unspent : Unspent budget (record { tries = cur .tries + 1; rows = cur .rows; spent = cur .spent; full = cur .full })
+
+-- what the rest of the plan leaves of it, whether that was a leaf or a walk
+pub record Went (w most budget : ℕ) (cur : Progress) (m : List ℕ) (cost : ℕ) (rows : List (List ℤ)) (n : ℕ) (r : Progress) (m′ b′ : List ℕ) : Type 0 where
+  pub ended : Ended w most budget (cur .rows) m (cur .tries + 1) (listingOf w (cur .rows) (cur .full) m) cost rows r m′
+  pub as-long : length m′ ≡ length m
+  pub slots : length b′ ≡ n
+
+pub went : {w most budget : ℕ} {cur : Progress} {m : List ℕ} {cost : ℕ} {rows : List (List ℤ)} {n : ℕ} {r r₁ : Progress} {m′ m₁ b′ b₁ : List ℕ} → Ended w most budget (cur .rows) m (cur .tries + 1) (listingOf w (cur .rows) (cur .full) m) cost rows r₁ m₁ → length m₁ ≡ length m → length b₁ ≡ n → b′ ≡ b₁ → m′ ≡ m₁ → r ≡ r₁ → Went w most budget cur m cost rows n r m′ b′
+went {w} {most} {budget} {cur} {m} {cost} {rows} {r₁ = r₁} {m′ = m′} h k l e f g = record {
+  ended = subst (λ (c : Progress). Ended w most budget (cur .rows) m (cur .tries + 1) (listingOf w (cur .rows) (cur .full) m) cost rows c m′) (sym g) (subst (λ (x : List ℕ). Ended w most budget (cur .rows) m (cur .tries + 1) (listingOf w (cur .rows) (cur .full) m) cost rows r₁ x) (sym f) h);
+  as-long = ap length f ∙ k;
+  slots = ap length e ∙ l;
+}
 
 module _ {ws ps : List ℕ} {position v : ℕ} {inputs conjuncts elements ms begins : List ℕ} {s : Situation} (W : World ws ps position v inputs conjuncts elements ms begins s) (d : ℕ) (b : List ℕ) (S : Sound (s .transition) (drop d (s .transition .plan)) (partialOf v b)) where
   -- ── At the end of the plan ──
@@ -57,8 +78,12 @@ module _ {ws ps : List ℕ} {position v : ℕ} {inputs conjuncts elements ms beg
       all : take v b ≡ b
       all = take-all v b (omega arith)
 
-      pub leaf-values : Every IsValue b
+      leaf-values : Every IsValue b
       leaf-values = subst (Every IsValue) all (slots-values (take v b) (full .0) (full .1) .1)
+
+      -- what a leaf asks for
+      pub leaf-handed : {most n : ℕ} {m : List ℕ} → Held v most n m → PlacesFit ws ps × ((length begins ≡ 65) × ((length inputs ≤ 8) × (Every IsValue b × Held (length b) most n m)))
+      leaf-handed {most} {n} {m} k = (W .fits, (W .beginnings, (few-inputs W, (leaf-values, subst (λ (j : ℕ). Held j most n m) (sym l) k))))
 
       pub walked-leaf : {most budget : ℕ} {c : Progress} {m : List ℕ} {r : Progress} {m′ : List ℕ} → Unspent budget c → IsLeaf ws ps conjuncts inputs ms begins most b c m r m′ → Ended v most budget (c .rows) m (c .tries) (listingOf v (c .rows) (c .full) m) (costFrom s (drop d (s .transition .plan)) (partialOf v b)) (rowsFrom s (drop d (s .transition .plan)) (partialOf v b)) r m′
       walked-leaf {most} {budget} {c} {m} {r} {m′} u i =

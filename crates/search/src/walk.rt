@@ -31,6 +31,7 @@ fn element_at(net: &[u32], at: usize) -> Element
 }
 
 // Walks the plan from the element `depth` on. A try writes the slots; what they held on arrival is put back after it, so they are left as they were.
+// A try of the last element that goes on is a leaf at once.
 pub fn walk(
     net: &[u32],
     places: &[usize],
@@ -108,23 +109,38 @@ pub fn walk(
             &saved,
             i,
         ) {
-            cur = walk(
-                net,
-                places,
-                position,
-                variables,
-                conjuncts,
-                inputs,
-                elements,
-                marking,
-                begins,
-                depth + 1,
-                slots,
-                menu,
-                most,
-                budget,
-                cur,
-            );
+            if depth + 1 == elements.len() {
+                cur = leaf(
+                    net,
+                    places,
+                    conjuncts,
+                    inputs,
+                    marking,
+                    begins,
+                    slots,
+                    menu,
+                    most,
+                    cur,
+                );
+            } else {
+                cur = walk(
+                    net,
+                    places,
+                    position,
+                    variables,
+                    conjuncts,
+                    inputs,
+                    elements,
+                    marking,
+                    begins,
+                    depth + 1,
+                    slots,
+                    menu,
+                    most,
+                    budget,
+                    cur,
+                );
+            }
             restore(slots, &saved);
             if cur.spent {
                 return cur;
