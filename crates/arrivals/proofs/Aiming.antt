@@ -6,7 +6,7 @@ use Prim.Native.Nat.{ℕ, _+_, _-_, _/_, _≤_, _<_}
 use native.Mathlib.Omega.{arith}
 use borrow.Author.Tests.{ltb-true}
 use lib.Dec.{ltb}
-use lib.ListN.{length, getD, replicate}
+use lib.ListN.{length, getD}
 use Rattle.semantics.specs.Reading.{read, several, word}
 use Rattle.semantics.specs.Net.{Place, Arc, rangesAt}
 use Rattle.semantics.specs.ReadNet.{readExpression, readArc}
@@ -24,8 +24,7 @@ use Rattle.net.proofs.Placed.{places-length, width-at, fits-at}
 use Rattle.counts.proofs.Found.{rows-inside}
 use Rattle.elements.specs.declared.element.Element.{Element}
 use Rattle.arrivals.specs.declared.step.Step.{Step}
-use Rattle.matches.specs.Known.{Knows}
-use Rattle.arrivals.specs.Step.{IsParts, Inside, IsMatch}
+use Rattle.arrivals.specs.Step.{IsParts, Blank, Noted, Inside, IsMatch}
 use Rattle.matches.proofs.Knowing.{knows-nothing}
 
 -- ── An arc that was read ──
@@ -66,16 +65,16 @@ pub record Without (e : Element) (r : Step) : Type 0 where
   pub none : r .count ≡ 0
   pub front : r .from ≡ 0
   pub narrow : r .width ≡ 0
-  pub blank : r .known ≡ replicate 4 0
 
-pub without : {e : Element} {r : Step} → (r .element ≡ e) × (r .count ≡ 0) × (r .from ≡ 0) × (r .width ≡ 0) × (r .known ≡ replicate 4 0) → Without e r
-without h = record { element = h .0; none = h .1; front = h .2; narrow = h .3; blank = h .4 }
+pub without : {e : Element} {r : Step} → (r .element ≡ e) × (r .count ≡ 0) × (r .from ≡ 0) × (r .width ≡ 0) → Without e r
+without h = record { element = h .0; none = h .1; front = h .2; narrow = h .3 }
 
 pub without-inside : {e : Element} {r : Step} (ms : List ℕ) → Without e r → Inside ms r
 without-inside {e} {r} ms n = record { narrow = rw (n .narrow) (omega arith); inside = rw (n .none, n .front, n .narrow) (omega arith) }
 
-pub without-knows : {e : Element} {r : Step} (v : ℕ) (b : List ℕ) → Without e r → Knows v b (r .parts) (r .known)
-without-knows {e} {r} v b n = rw (n .blank) (knows-nothing v b (r .parts) 4)
+-- words that stay as they were lent
+pub noted-blank : (v : ℕ) (b : List ℕ) {parts known : List ℕ} → Blank parts known → Noted v b parts known
+noted-blank v b {parts} z = record { full = z .full; knows = rw (z .blank) (knows-nothing v b parts 4) }
 
 module _ (ws ps : List ℕ) (v : ℕ) (ms begins : List ℕ) (e : Element) (at : ℕ) {t : Taken} (w : IsTaken ws at 5 t) where
   -- an arc reads only where its word was taken
@@ -84,36 +83,36 @@ module _ (ws ps : List ℕ) (v : ℕ) (ms begins : List ℕ) (e : Element) (at :
       let x : read q (at + 1) ≡ read (a .place) (s .mid) = sym (word-taken w d) ∙ arc-head ws ps v at a next s .0 in
       (cc, cc)
 
-  module _ (r : Step) (n : Without e r) where
-    none-aimed : ((a : Arc) (next : ℕ) → readArc ws (placesAt ws ps) v at ≡ read a next → getD begins (a .place) 0 ≤ getD begins (a .place + 1) 0 → getD begins (a .place + 1) 0 ≤ length ms → ⊥) → IsMatch ws ps v ms begins e at r
+  module _ (parts : List ℕ) (r : Step) (n : Without e r) where
+    none-aimed : ((a : Arc) (next : ℕ) → readArc ws (placesAt ws ps) v at ≡ read a next → getD begins (a .place) 0 ≤ getD begins (a .place + 1) 0 → getD begins (a .place + 1) 0 ≤ length ms → ⊥) → IsMatch ws ps v ms begins e at parts r
     none-aimed f = record { element = n .element; entries = without-inside ms n; aimed = λ a next h x y. absurd (f a next h x y) }
 
-    pub match-refused : {m q : ℕ} → t ≡ TakeRefused m q → IsMatch ws ps v ms begins e at r
+    pub match-refused : {m q : ℕ} → t ≡ TakeRefused m q → IsMatch ws ps v ms begins e at parts r
     match-refused {m} {q} d = none-aimed λ a next h x y.
         let s = arc-read ws (placesAt ws ps) v at a next h in
         refused-read m q (a .place) (s .mid) (sym (word-refused w d) ∙ arc-head ws ps v at a next s .0)
 
     module _ {q : ℕ} (d : t ≡ Word q) where
-      pub match-nowhere : length ps ≤ q → IsMatch ws ps v ms begins e at r
+      pub match-nowhere : length ps ≤ q → IsMatch ws ps v ms begins e at parts r
       match-nowhere l = none-aimed λ a next h x y.
           let s = arc-read ws (placesAt ws ps) v at a next h in
           let k = arc-head ws ps v at a next s .1 in
           let p = taken-place a next s d .0 in
           omega arith
 
-      pub match-backwards : getD begins (q + 1) 0 < getD begins q 0 → IsMatch ws ps v ms begins e at r
+      pub match-backwards : getD begins (q + 1) 0 < getD begins q 0 → IsMatch ws ps v ms begins e at parts r
       match-backwards l = none-aimed λ a next h x y.
           let s = arc-read ws (placesAt ws ps) v at a next h in
           let g : getD begins (a .place + 1) 0 < getD begins (a .place) 0 = rw (taken-place a next s d .0) at l in
           omega arith
 
-      pub match-outside : length ms < getD begins (q + 1) 0 → IsMatch ws ps v ms begins e at r
+      pub match-outside : length ms < getD begins (q + 1) 0 → IsMatch ws ps v ms begins e at parts r
       match-outside l = none-aimed λ a next h x y.
           let s = arc-read ws (placesAt ws ps) v at a next h in
           let g : length ms < getD begins (a .place + 1) 0 = rw (taken-place a next s d .0) at l in
           omega arith
 
-      pub match-unread : (k : Skipped) → skipped k ≡ forget (readExpression ws v (at + 1)) → {m p : ℕ} → k ≡ Refused m p → IsMatch ws ps v ms begins e at r
+      pub match-unread : (k : Skipped) → skipped k ≡ forget (readExpression ws v (at + 1)) → {m p : ℕ} → k ≡ Refused m p → IsMatch ws ps v ms begins e at parts r
       match-unread k f {m} {p} g = none-aimed λ a next h x y.
           let s = arc-read ws (placesAt ws ps) v at a next h in
           let b = taken-place a next s d .1 in
@@ -122,7 +121,7 @@ module _ (ws ps : List ℕ) (v : ℕ) (ms begins : List ℕ) (e : Element) (at :
   -- ── The entries of its place ──
 
   module _ {q : ℕ} (d : t ≡ Word q) (l : q < length ps) (fits : PlacesFit ws ps) (up : getD begins q 0 ≤ getD begins (q + 1) 0) (inside : getD begins (q + 1) 0 ≤ length ms) (k : Skipped) (f : skipped k ≡ forget (readExpression ws v (at + 1))) {first : ℕ} (g : k ≡ Next first) where
-    pub match-aimed : {width : ℕ} {parts known : List ℕ} → width ≡ widthAt ws (getD ps q 0) → IsParts ws v first width parts → IsMatch ws ps v ms begins e at (record { element = e; count = (getD begins (q + 1) 0 - getD begins q 0) / (width + 1); from = getD begins q 0; width = width; parts = parts; known = known })
+    pub match-aimed : {width : ℕ} {parts : List ℕ} → width ≡ widthAt ws (getD ps q 0) → IsParts ws v first width parts → IsMatch ws ps v ms begins e at parts (record { element = e; count = (getD begins (q + 1) 0 - getD begins q 0) / (width + 1); from = getD begins q 0; width = width })
     match-aimed {width} {parts} i j = record {
       element = refl;
       entries = record { narrow = rw i (fits-at fits q l .narrow); inside = rows-inside (getD begins q 0) (getD begins (q + 1) 0) (width + 1) (length ms) up inside };

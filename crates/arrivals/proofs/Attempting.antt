@@ -35,20 +35,20 @@ up-at a zero i h = absurd (omega arith)
 up-at a (suc n) zero h = omega arith
 up-at a (suc n) (suc i) h = up-at (suc a) n i (omega arith) ∙ omega arith
 
-module _ (ws : List ℕ) (ranges v : ℕ) (ms : List ℕ) (s : Step) (p : Partial) (i : ℕ) (h : i < s .count) where
-  by-sort : {o : Option Partial} {k : Sort} → s .element .sort ≡ k → o ≡ getD (triesOf ws ranges v ms s p k) i none → o ≡ getD (triesBy ws ranges v ms s p) i none
-  by-sort {o} e f = f ∙ ap (λ (k : Sort). getD (triesOf ws ranges v ms s p k) i none) (sym e)
+module _ (ws : List ℕ) (ranges v : ℕ) (ms : List ℕ) (s : Step) (parts : List ℕ) (p : Partial) (i : ℕ) (h : i < s .count) where
+  by-sort : {o : Option Partial} {k : Sort} → s .element .sort ≡ k → o ≡ getD (triesOf ws ranges v ms s parts p k) i none → o ≡ getD (triesBy ws ranges v ms s parts p) i none
+  by-sort {o} e f = f ∙ ap (λ (k : Sort). getD (triesOf ws ranges v ms s parts p k) i none) (sym e)
 
-  pub try-match : {o : Option Partial} {k : ℕ} → s .element .sort ≡ Match k → o ≡ matchedBy (rangesFrom ws v ranges) (take (s .width) (s .parts)) (valuesAt ms (s .width) (s .from + i * (s .width + 1) + 1)) p → o ≡ getD (triesBy ws ranges v ms s p) i none
+  pub try-match : {o : Option Partial} {k : ℕ} → s .element .sort ≡ Match k → o ≡ matchedBy (rangesFrom ws v ranges) (take (s .width) parts) (valuesAt ms (s .width) (s .from + i * (s .width + 1) + 1)) p → o ≡ getD (triesBy ws ranges v ms s parts p) i none
   try-match e f =
       by-sort e
-      (f ∙ sym (map-number (λ c. matchedBy (rangesFrom ws v ranges) (take (s .width) (s .parts)) c p) (coloursAt ms (s .width) (s .count) (s .from)) i [] none (rw (colours-length ms (s .width) (s .count) (s .from)) h)
+      (f ∙ sym (map-number (λ c. matchedBy (rangesFrom ws v ranges) (take (s .width) parts) c p) (coloursAt ms (s .width) (s .count) (s .from)) i [] none (rw (colours-length ms (s .width) (s .count) (s .from)) h)
       ∙ rw (colours-at ms (s .width) (s .count) (s .from) i h)))
 
-  pub try-solve : {o : Option Partial} {k : ℕ} → s .element .sort ≡ Solve k → o ≡ solvedAt ws (rangesFrom ws v ranges) v p (s .from) → o ≡ getD (triesBy ws ranges v ms s p) i none
+  pub try-solve : {o : Option Partial} {k : ℕ} → s .element .sort ≡ Solve k → o ≡ solvedAt ws (rangesFrom ws v ranges) v p (s .from) → o ≡ getD (triesBy ws ranges v ms s parts p) i none
   try-solve e f = by-sort e (f ∙ sym (getD-replicate (s .count) i (solvedAt ws (rangesFrom ws v ranges) v p (s .from)) none h))
 
-  pub try-range : {o : Option Partial} {k : ℕ} → s .element .sort ≡ InRange k → o ≡ some (set p k (some (valueAt (getD ws (ranges + k) 0) i))) → o ≡ getD (triesBy ws ranges v ms s p) i none
+  pub try-range : {o : Option Partial} {k : ℕ} → s .element .sort ≡ InRange k → o ≡ some (set p k (some (valueAt (getD ws (ranges + k) 0) i))) → o ≡ getD (triesBy ws ranges v ms s parts p) i none
   try-range {k = k} e f =
       by-sort e
       (f ∙ sym (map-number up (upFrom 0 (s .count)) i 0 none (rw (up-length 0 (s .count)) h) ∙ ap up (up-at 0 (s .count) i h ∙ zero-add i)))
@@ -57,11 +57,11 @@ module _ (ws : List ℕ) (ranges v : ℕ) (ms : List ℕ) (s : Step) (p : Partia
       up j = some (set p k (some (valueAt (getD ws (ranges + k) 0) j)))
 
 -- a colour that differs from what is known
-module _ (ws : List ℕ) (ranges v : ℕ) (ms : List ℕ) (s : Step) (b : List ℕ) (i : ℕ) (h : i < s .count) where
-  pub try-differs : {k : ℕ} {r : Bool} → s .element .sort ≡ Match k → Knows v b (s .parts) (s .known) → r ≡ true → DiffersIf ms (s .from + i * (s .width + 1) + 1) (s .width) (s .known) r → none ≡ getD (triesBy ws ranges v ms s (partialOf v b)) i none
-  try-differs e k t d =
-      let f : Differs ms (s .from + i * (s .width + 1) + 1) (s .width) (s .known) = subst (DiffersIf ms (s .from + i * (s .width + 1) + 1) (s .width) (s .known)) t d in
-      try-match ws ranges v ms s (partialOf v b) i h e (differs-fails (rangesFrom ws v ranges) k f)
+module _ (ws : List ℕ) (ranges v : ℕ) (ms : List ℕ) (s : Step) (parts b : List ℕ) (i : ℕ) (h : i < s .count) where
+  pub try-differs : {known : List ℕ} {k : ℕ} {r : Bool} → s .element .sort ≡ Match k → Knows v b parts known → r ≡ true → DiffersIf ms (s .from + i * (s .width + 1) + 1) (s .width) known r → none ≡ getD (triesBy ws ranges v ms s parts (partialOf v b)) i none
+  try-differs {known} e k t d =
+      let f : Differs ms (s .from + i * (s .width + 1) + 1) (s .width) known = subst (DiffersIf ms (s .from + i * (s .width + 1) + 1) (s .width) known) t d in
+      try-match ws ranges v ms s parts (partialOf v b) i h e (differs-fails (rangesFrom ws v ranges) k f)
 
 -- what is safe and ready, by the sort
 module _ (v : ℕ) (s : Step) where

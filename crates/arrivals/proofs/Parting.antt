@@ -37,7 +37,7 @@ parting-start ws v at n parts l =
 module _ {ws : List ℕ} {v at n i next : ℕ} {parts : List ℕ} (a : Parting ws v at n i next parts) where
   pub parting-ends : n ≤ i → IsParts ws v at n parts
   unfolding several
-  parting-ends h = record { begin = λ es end r. by es end (a .ahead es end r) }
+  parting-ends h = record { full = a .full; begin = λ es end r. by es end (a .ahead es end r) }
     where
       by : (es : List Expression) (end : ℕ) → (fs : List Expression) × (several (n - i) (readExpression ws v) next ≡ read fs end) × ((ps : List ℕ) → Begin ps fs → Begin (take i parts ++ ps) es) → Begin (take n parts) es
       by es end f =
@@ -51,7 +51,7 @@ module _ {ws : List ℕ} {v at n i next : ℕ} {parts : List ℕ} (a : Parting w
 
   module _ (k : i < n) (s : Skipped) (h : skipped s ≡ forget (readExpression ws v next)) where
     pub parting-stops : {m q : ℕ} → s ≡ Refused m q → IsParts ws v at n parts
-    parting-stops {m} {q} d = record { begin = λ es end r. by es end (a .ahead es end r) }
+    parting-stops {m} {q} d = record { full = a .full; begin = λ es end r. by es end (a .ahead es end r) }
       where
         by : (es : List Expression) (end : ℕ) → (fs : List Expression) × (several (n - i) (readExpression ws v) next ≡ read fs end) × ((ps : List ℕ) → Begin ps fs → Begin (take i parts ++ ps) es) → Begin (take n parts) es
         by es end f =

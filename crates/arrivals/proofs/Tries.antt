@@ -50,19 +50,19 @@ use Rattle.arrivals.proofs.Colours.{place-inside, place-colours}
 -- ── The number of tries ──
 
 -- whatever the words
-pub tries-length : (ws : List ℕ) (ranges v : ℕ) (ms : List ℕ) (r : Step) (p : Partial) → length (triesBy ws ranges v ms r p) ≡ r .count
-tries-length ws ranges v ms r p = by (r .element .sort)
+pub tries-length : (ws : List ℕ) (ranges v : ℕ) (ms : List ℕ) (r : Step) (parts : List ℕ) (p : Partial) → length (triesBy ws ranges v ms r parts p) ≡ r .count
+tries-length ws ranges v ms r parts p = by (r .element .sort)
   where
-    by : (k : Sort) → length (triesOf ws ranges v ms r p k) ≡ r .count
-    by (Match k) = length-map (coloursAt ms (r .width) (r .count) (r .from)) (λ c. matchedBy (rangesFrom ws v ranges) (take (r .width) (r .parts)) c p) ∙ colours-length ms (r .width) (r .count) (r .from)
+    by : (k : Sort) → length (triesOf ws ranges v ms r parts p k) ≡ r .count
+    by (Match k) = length-map (coloursAt ms (r .width) (r .count) (r .from)) (λ c. matchedBy (rangesFrom ws v ranges) (take (r .width) parts) c p) ∙ colours-length ms (r .width) (r .count) (r .from)
     by (Solve k) = length-replicate (r .count) (solvedAt ws (rangesFrom ws v ranges) v p (r .from))
     by (InRange n) = length-map (upFrom 0 (r .count)) (λ i. some (set p n (some (valueAt (getD ws (ranges + n) 0) i)))) ∙ up-length 0 (r .count)
 
 -- ── Positions ──
 
 module _ {ws ps : List ℕ} {position v : ℕ} {inputs conjuncts elements ms begins : List ℕ} {s : Situation} (w : World ws ps position v inputs conjuncts elements ms begins s) where
-  parts : Parts ws (s .net .places) (s .transition)
-  parts = transition-parts ws (s .net .places) position (s .transition) (w .after) (w .there)
+  pieces : Parts ws (s .net .places) (s .transition)
+  pieces = transition-parts ws (s .net .places) position (s .transition) (w .after) (w .there)
 
   pub sound : SoundTransition (s .net .places) (s .transition)
   sound = transition-sound ws (s .net .places) position (s .transition) (w .after) (w .there)
@@ -77,7 +77,7 @@ module _ {ws ps : List ℕ} {position v : ℕ} {inputs conjuncts elements ms beg
 
     arc-here : (next : ℕ) × (readArc ws (placesAt ws ps) v (getD inputs k 0) ≡ read a next)
     arc-here =
-        let h = Every-at (At (readArc ws (s .net .places) (length (s .transition .variables))) (λ (a : Arc). a .position)) (parts .inputs) (at-member (s .transition .inputs) k a e) in
+        let h = Every-at (At (readArc ws (s .net .places) (length (s .transition .variables))) (λ (a : Arc). a .position)) (pieces .inputs) (at-member (s .transition .inputs) k a e) in
         let i : getD inputs k 0 ≡ a .position = ap (λ (l : List ℕ). getD l k 0) (w .arcs) ∙ map-elem (λ (a : Arc). a .position) (s .transition .inputs) k a 0 e in (
           h .next,
           ap (readArc ws (placesAt ws ps) v) i
@@ -103,15 +103,15 @@ module _ {ws ps : List ℕ} {position v : ℕ} {inputs conjuncts elements ms beg
 
     conjunct-here : (next : ℕ) × (readConjunct ws v (getD conjuncts k 0) ≡ read c next)
     conjunct-here =
-        let h = Every-at (At (readConjunct ws (length (s .transition .variables))) (λ (c : Conjunct). c .position)) (parts .guard) (at-member (s .transition .guard) k c e) in
+        let h = Every-at (At (readConjunct ws (length (s .transition .variables))) (λ (c : Conjunct). c .position)) (pieces .guard) (at-member (s .transition .guard) k c e) in
         let i : getD conjuncts k 0 ≡ c .position = ap (λ (l : List ℕ). getD l k 0) (w .guards) ∙ map-elem (λ (c : Conjunct). c .position) (s .transition .guard) k c 0 e in
         (h .next, ap (readConjunct ws v) i ∙ ap (λ (n : ℕ). readConjunct ws n (c .position)) (w .many) ∙ h .reads)
 
   -- ── An arrival ──
 
-  module _ {e : Element} {b : List ℕ} {r : Step} (a : IsArrival ws ps position v inputs conjuncts ms begins e b r) where
+  module _ {e : Element} {b parts known : List ℕ} {r : Step} (a : IsArrival ws ps position v inputs conjuncts ms begins e b parts known r) where
     -- a conjunct that is tried stands at its position
-    ready-by : (k : Sort) → Told ws ps position v inputs conjuncts ms begins e r k → ReadyBy ws v r k
+    ready-by : (k : Sort) → Told ws ps position v inputs conjuncts ms begins e parts r k → ReadyBy ws v r k
     ready-by (Match k) t = tt
     ready-by (Solve k) t = λ h. by h (either (ltb k (length conjuncts)))
       where
@@ -125,14 +125,14 @@ module _ {ws ps : List ℕ} {position v : ℕ} {inputs conjuncts elements ms beg
     ready-by (InRange n) t = tt
 
     module _ (p : Partial) (n : ℕ) (ns : List ℕ) where
-      tries-match : (k : ℕ) → Told ws ps position v inputs conjuncts ms begins e r (Match k) → FitMatch (s .transition) (isBoundIn p) k (n ∷ ns) → triesOf ws (position + 1) v ms r p (Match k) ≡ tries houseTable (s .net) (s .transition) (s .counts) (sorted (Match k)) p
+      tries-match : (k : ℕ) → Told ws ps position v inputs conjuncts ms begins e parts r (Match k) → FitMatch (s .transition) (isBoundIn p) k (n ∷ ns) → triesOf ws (position + 1) v ms r parts p (Match k) ≡ tries houseTable (s .net) (s .transition) (s .counts) (sorted (Match k)) p
       unfolding tries
-      tries-match k t f = rw (f .named) (ap (λ (l : List (List ℤ)). map (λ c. matchedBy (rangesFrom ws v (position + 1)) (take (r .width) (r .parts)) c p) l) same ∙ ap (λ (g : List ℤ → Option Partial). map g (coloursOn (s .net) (s .counts) (f .arc .place))) (fun-ext held))
+      tries-match k t f = rw (f .named) (ap (λ (l : List (List ℤ)). map (λ c. matchedBy (rangesFrom ws v (position + 1)) (take (r .width) parts) c p) l) same ∙ ap (λ (g : List ℤ → Option Partial). map g (coloursOn (s .net) (s .counts) (f .arc .place))) (fun-ext held))
         where
           inside : (getD begins (f .arc .place) 0 ≤ getD begins (f .arc .place + 1) 0) × (getD begins (f .arc .place + 1) 0 ≤ length ms)
           inside = place-inside (s .net) ms (w .entries) (w .end) (w .marked) begins (w .begun) (f .arc .place) (arc-few k (f .arc) (f .named))
 
-          aim : Aimed begins (f .arc) r
+          aim : Aimed begins (f .arc) parts r
           aim =
               let h = arc-here k (f .arc) (f .named) in
               t .0 (arc-inside k (f .arc) (f .named)) .aimed (f .arc) (h .0) (h .1) (inside .0) (inside .1)
@@ -143,17 +143,17 @@ module _ {ws ps : List ℕ} {position v : ℕ} {inputs conjuncts elements ms beg
           same : coloursAt ms (r .width) (r .count) (r .from) ≡ coloursOn (s .net) (s .counts) (f .arc .place)
           same = rw (aim .many, aim .from, w .counted) (place-colours (s .net) ms (w .entries) (w .end) (w .marked) begins (w .begun) (f .arc .place) (arc-few k (f .arc) (f .named)) (r .width) width)
 
-          held : (c : List ℤ) → matchedBy (rangesFrom ws v (position + 1)) (take (r .width) (r .parts)) c p ≡ matched (s .transition .variables) (f .arc .components) c p
-          held c = rw ranges-here (heads-match (s .transition .variables) (take (r .width) (r .parts)) (f .arc .components) (aim .begin) c p)
+          held : (c : List ℤ) → matchedBy (rangesFrom ws v (position + 1)) (take (r .width) parts) c p ≡ matched (s .transition .variables) (f .arc .components) c p
+          held c = rw ranges-here (heads-match (s .transition .variables) (take (r .width) parts) (f .arc .components) (aim .begin) c p)
 
-      tries-solve : (k : ℕ) → Told ws ps position v inputs conjuncts ms begins e r (Solve k) → FitSolve (s .transition) (isBoundIn p) k (n ∷ ns) → triesOf ws (position + 1) v ms r p (Solve k) ≡ tries houseTable (s .net) (s .transition) (s .counts) (sorted (Solve k)) p
+      tries-solve : (k : ℕ) → Told ws ps position v inputs conjuncts ms begins e parts r (Solve k) → FitSolve (s .transition) (isBoundIn p) k (n ∷ ns) → triesOf ws (position + 1) v ms r parts p (Solve k) ≡ tries houseTable (s .net) (s .transition) (s .counts) (sorted (Solve k)) p
       unfolding tries bind
       tries-solve k t f =
           let h = conjunct-here k (f .conjunct) (f .named) in
           let g = t .0 (conjunct-inside k (f .conjunct) (f .named)) in
           rw (f .named, f .found, g .0, g .1, h .1, ranges-here, side-is (isBoundIn p) (f .conjunct) (f .answer) (f .found))
 
-      tries-range : (k : ℕ) → Told ws ps position v inputs conjuncts ms begins e r (InRange k) → FitRange (s .transition) (isBoundIn p) k (n ∷ ns) → triesOf ws (position + 1) v ms r p (InRange k) ≡ tries houseTable (s .net) (s .transition) (s .counts) (sorted (InRange k)) p
+      tries-range : (k : ℕ) → Told ws ps position v inputs conjuncts ms begins e parts r (InRange k) → FitRange (s .transition) (isBoundIn p) k (n ∷ ns) → triesOf ws (position + 1) v ms r parts p (InRange k) ≡ tries houseTable (s .net) (s .transition) (s .counts) (sorted (InRange k)) p
       unfolding tries
       tries-range k t f =
           let x = getD ws (position + 1 + k) 0 in
@@ -163,7 +163,7 @@ module _ {ws ps : List ℕ} {position v : ℕ} {inputs conjuncts elements ms beg
           rw (g, t .0 l .counts o)
           (sym (map-map (λ z. some (set p k (some z))) (valueAt x) (upFrom 0 (length (valuesOfRange (rangeWord x))))) ∙ ap (map (λ z. some (set p k (some z)))) (range-values x o))
 
-      tries-by : (k : Sort) → Told ws ps position v inputs conjuncts ms begins e r k → newlyBound (s .transition) (isBoundIn p) (sorted k) ≡ n ∷ ns → triesOf ws (position + 1) v ms r p k ≡ tries houseTable (s .net) (s .transition) (s .counts) (sorted k) p
+      tries-by : (k : Sort) → Told ws ps position v inputs conjuncts ms begins e parts r k → newlyBound (s .transition) (isBoundIn p) (sorted k) ≡ n ∷ ns → triesOf ws (position + 1) v ms r parts p k ≡ tries houseTable (s .net) (s .transition) (s .counts) (sorted k) p
       tries-by (Match k) t h = tries-match k t (fit-match (s .transition) (isBoundIn p) k n ns h)
       tries-by (Solve k) t h = tries-solve k t (fit-solve (s .transition) (isBoundIn p) k n ns h)
       tries-by (InRange k) t h = tries-range k t (fit-range (s .transition) (isBoundIn p) k n ns h)
@@ -171,5 +171,5 @@ module _ {ws ps : List ℕ} {position v : ℕ} {inputs conjuncts elements ms beg
     pub arrival-ready : Ready ws v r
     arrival-ready = subst (λ (d : Element). ReadyBy ws v r (d .sort)) (sym (a .element)) (ready-by (e .sort) (a .told))
 
-    pub arrival-tries : (p : Partial) (n : ℕ) (ns : List ℕ) → newlyBound (s .transition) (isBoundIn p) (sorted (e .sort)) ≡ n ∷ ns → triesBy ws (position + 1) v ms r p ≡ tries houseTable (s .net) (s .transition) (s .counts) (sorted (e .sort)) p
-    arrival-tries p n ns h = ap (λ (d : Element). triesOf ws (position + 1) v ms r p (d .sort)) (a .element) ∙ tries-by p n ns (e .sort) (a .told) h
+    pub arrival-tries : (p : Partial) (n : ℕ) (ns : List ℕ) → newlyBound (s .transition) (isBoundIn p) (sorted (e .sort)) ≡ n ∷ ns → triesBy ws (position + 1) v ms r parts p ≡ tries houseTable (s .net) (s .transition) (s .counts) (sorted (e .sort)) p
+    arrival-tries p n ns h = ap (λ (d : Element). triesOf ws (position + 1) v ms r parts p (d .sort)) (a .element) ∙ tries-by p n ns (e .sort) (a .told) h

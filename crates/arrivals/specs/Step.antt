@@ -29,14 +29,25 @@ Begin [] (e ∷ es) = ⊥
 Begin (w ∷ ws) [] = ⊥
 Begin (w ∷ ws) (e ∷ es) = HeadWord w (headOfTree e) × Begin ws es
 
--- the first words of n expressions from a position on
+-- the first words of n expressions from a position on, in four words
 pub record IsParts (ws : List ℕ) (v at n : ℕ) (r : List ℕ) : Type 0 where
+  pub full : length r ≡ 4
   pub begin : (es : List Expression) (next : ℕ) → several n (readExpression ws v) at ≡ read es next → Begin (take n r) es
 
--- what is known of a match of an arc, in a marking with these beginnings
-pub record Aimed (begins : List ℕ) (a : Arc) (r : Step) : Type 0 where
+-- the words that a search lends to an arrival: for the first words of components, and for what is known of them, which is nothing yet
+pub record Blank (parts known : List ℕ) : Type 0 where
+  pub full : length parts ≡ 4
+  pub blank : known ≡ replicate 4 0
+
+-- the same words after an arrival, with the slots b
+pub record Noted (v : ℕ) (b parts known : List ℕ) : Type 0 where
+  pub full : length parts ≡ 4
+  pub knows : Knows v b parts known
+
+-- what is known of a match of an arc, in a marking with these beginnings, with the first words of its components
+pub record Aimed (begins : List ℕ) (a : Arc) (parts : List ℕ) (r : Step) : Type 0 where
   pub wide : r .width ≡ length (a .components)
-  pub begin : Begin (take (r .width) (r .parts)) (a .components)
+  pub begin : Begin (take (r .width) parts) (a .components)
   pub from : r .from ≡ getD begins (a .place) 0
   pub many : r .count ≡ (getD begins (a .place + 1) 0 - getD begins (a .place) 0) / (r .width + 1)
 
@@ -46,10 +57,10 @@ pub record Inside (ms : List ℕ) (r : Step) : Type 0 where
   pub inside : r .from + r .count * (r .width + 1) ≤ length ms
 
 -- a match of the arc at a position
-pub record IsMatch (ws ps : List ℕ) (v : ℕ) (ms begins : List ℕ) (e : Element) (at : ℕ) (r : Step) : Type 0 where
+pub record IsMatch (ws ps : List ℕ) (v : ℕ) (ms begins : List ℕ) (e : Element) (at : ℕ) (parts : List ℕ) (r : Step) : Type 0 where
   pub element : r .element ≡ e
   pub entries : Inside ms r
-  pub aimed : (a : Arc) (next : ℕ) → readArc ws (placesAt ws ps) v at ≡ read a next → getD begins (a .place) 0 ≤ getD begins (a .place + 1) 0 → getD begins (a .place + 1) 0 ≤ length ms → Aimed begins a r
+  pub aimed : (a : Arc) (next : ℕ) → readArc ws (placesAt ws ps) v at ≡ read a next → getD begins (a .place) 0 ≤ getD begins (a .place + 1) 0 → getD begins (a .place + 1) 0 ≤ length ms → Aimed begins a parts r
 
 -- an element's tries stand in the words and slots that there are
 abbrev pub SafeBy : List ℕ → ℕ → Step → Sort → Type 0
@@ -69,23 +80,23 @@ ReadyBy ws v s (InRange n) = Unit {0}
 abbrev pub Ready : List ℕ → ℕ → Step → Type 0
 Ready ws v s = ReadyBy ws v s (s .element .sort)
 
--- the tries of a step from a partial binding
-abbrev pub triesOf : List ℕ → ℕ → ℕ → List ℕ → Step → Partial → Sort → List (Option Partial)
-triesOf ws ranges v ms s p (Match k) = map (λ c. matchedBy (rangesFrom ws v ranges) (take (s .width) (s .parts)) c p) (coloursAt ms (s .width) (s .count) (s .from))
-triesOf ws ranges v ms s p (Solve k) = replicate (s .count) (solvedAt ws (rangesFrom ws v ranges) v p (s .from))
-triesOf ws ranges v ms s p (InRange n) = map (λ i. some (set p n (some (valueAt (getD ws (ranges + n) 0) i)))) (upFrom 0 (s .count))
+-- the tries of a step from a partial binding; those of a match are held against the first words of its components
+abbrev pub triesOf : List ℕ → ℕ → ℕ → List ℕ → Step → List ℕ → Partial → Sort → List (Option Partial)
+triesOf ws ranges v ms s parts p (Match k) = map (λ c. matchedBy (rangesFrom ws v ranges) (take (s .width) parts) c p) (coloursAt ms (s .width) (s .count) (s .from))
+triesOf ws ranges v ms s parts p (Solve k) = replicate (s .count) (solvedAt ws (rangesFrom ws v ranges) v p (s .from))
+triesOf ws ranges v ms s parts p (InRange n) = map (λ i. some (set p n (some (valueAt (getD ws (ranges + n) 0) i)))) (upFrom 0 (s .count))
 
-abbrev pub triesBy : List ℕ → ℕ → ℕ → List ℕ → Step → Partial → List (Option Partial)
-triesBy ws ranges v ms s p = triesOf ws ranges v ms s p (s .element .sort)
+abbrev pub triesBy : List ℕ → ℕ → ℕ → List ℕ → Step → List ℕ → Partial → List (Option Partial)
+triesBy ws ranges v ms s parts p = triesOf ws ranges v ms s parts p (s .element .sort)
 
 -- what an arrival tells of its element
-abbrev pub Told : List ℕ → List ℕ → ℕ → ℕ → List ℕ → List ℕ → List ℕ → List ℕ → Element → Step → Sort → Type 0
-Told ws ps position v inputs conjuncts ms begins e r (Match k) = (k < length inputs → IsMatch ws ps v ms begins e (getD inputs k 0) r) × (length inputs ≤ k → r .count ≡ 0)
-Told ws ps position v inputs conjuncts ms begins e r (Solve k) = (k < length conjuncts → (r .count ≡ 1) × (r .from ≡ getD conjuncts k 0)) × (length conjuncts ≤ k → r .count ≡ 0)
-Told ws ps position v inputs conjuncts ms begins e r (InRange n) = (n < v → CountsValues (getD ws (position + 1 + n) 0) (r .count)) × (v ≤ n → r .count ≡ 0)
+abbrev pub Told : List ℕ → List ℕ → ℕ → ℕ → List ℕ → List ℕ → List ℕ → List ℕ → Element → List ℕ → Step → Sort → Type 0
+Told ws ps position v inputs conjuncts ms begins e parts r (Match k) = (k < length inputs → IsMatch ws ps v ms begins e (getD inputs k 0) parts r) × (length inputs ≤ k → r .count ≡ 0)
+Told ws ps position v inputs conjuncts ms begins e parts r (Solve k) = (k < length conjuncts → (r .count ≡ 1) × (r .from ≡ getD conjuncts k 0)) × (length conjuncts ≤ k → r .count ≡ 0)
+Told ws ps position v inputs conjuncts ms begins e parts r (InRange n) = (n < v → CountsValues (getD ws (position + 1 + n) 0) (r .count)) × (v ≤ n → r .count ≡ 0)
 
-pub record IsArrival (ws ps : List ℕ) (position v : ℕ) (inputs conjuncts ms begins : List ℕ) (e : Element) (b : List ℕ) (r : Step) : Type 0 where
+pub record IsArrival (ws ps : List ℕ) (position v : ℕ) (inputs conjuncts ms begins : List ℕ) (e : Element) (b parts known : List ℕ) (r : Step) : Type 0 where
   pub element : r .element ≡ e
   pub safe : Safe ms v r
-  pub knows : Knows v b (r .parts) (r .known)
-  pub told : Told ws ps position v inputs conjuncts ms begins e r (e .sort)
+  pub noted : Noted v b parts known
+  pub told : Told ws ps position v inputs conjuncts ms begins e parts r (e .sort)

@@ -15,43 +15,39 @@ use word::fields::payload;
 ghost use mathlib.Core.Path.{_≡_};
 ghost use mathlib.Core.Option.{none};
 ghost use Prim.Native.Nat.{_≤_, _<_, _+_};
-ghost use lib.ListN.{length, getD, replicate};
+ghost use lib.ListN.{length, getD};
 ghost use Rattle.net.specs.Places.{PlacesFit};
 ghost use Rattle.tries.specs.Partial.{partialOf, IsTried, IsSaved};
-ghost use Rattle.matches.specs.Known.{Knows};
-ghost use Rattle.arrivals.specs.Step.{IsParts, IsMatch, IsArrival, Safe, Ready, triesBy};
+ghost use Rattle.arrivals.specs.Step.{IsParts, Blank, Noted, IsMatch, IsArrival, Safe, Ready, triesBy};
 
 // A search step: the element that was arrived at, its number of tries, and what they need: for a match where the entries of its place begin, the
-// components of a colour there, the first words of the arc's components and the values that are known of them; for a solve where its conjunct stands.
+// components of a colour there; for a solve where its conjunct stands. The first words of the arc's components and the values that are known of them
+// stand in words that the search lends.
 pub struct Step {
     pub element: Element,
     pub count: usize,
     pub from: usize,
     pub width: usize,
-    pub parts: [u32; 4],
-    pub known: [u32; 4],
 }
 
 // An element without tries.
 fn no_tries(e: Element) -> Step
-    ensures { λ r. ⌜ (r .element ≡ e) × (r .count ≡ 0) × (r .from ≡ 0) × (r .width ≡ 0) × (r .known ≡ replicate 4 0) ⌝ }
+    ensures { λ r. ⌜ (r .element ≡ e) × (r .count ≡ 0) × (r .from ≡ 0) × (r .width ≡ 0) ⌝ }
 {
     Step {
         element: e,
         count: 0,
         from: 0,
         width: 0,
-        parts: [0; 4],
-        known: [0; 4],
     }
 }
 
 // The first words of so many expressions, one after the other.
-fn parts_at(net: &[u32], variables: usize, at: usize, n: usize) -> [u32; 4]
+fn parts_at(net: &[u32], variables: usize, at: usize, n: usize, parts: &mut [u32; 4])
     requires { ⌜ n ≤ 4 ⌝ }
-    ensures { λ r. ⌜ IsParts (now (net .entry)) variables at n r ⌝ }
+    requires { ⌜ length (now parts) ≡ 4 ⌝ }
+    ensures { λ r. ⌜ IsParts (now (net .entry)) variables at n (now (parts .exit)) ⌝ }
 {
-    let mut parts = [0u32; 4];
     let mut i = 0;
     let mut next = at;
     while i < n {
@@ -61,12 +57,11 @@ fn parts_at(net: &[u32], variables: usize, at: usize, n: usize) -> [u32; 4]
                 next = p;
             }
             Skipped::Refused(_, _) => {
-                return parts;
+                return;
             }
         }
         i += 1;
     }
-    parts
 }
 
 // A match of the arc at a position: a try for each entry of its place.
@@ -79,11 +74,14 @@ fn arrive_match(
     e: Element,
     slots: &[u32],
     at: usize,
+    parts: &mut [u32; 4],
+    known: &mut [u32; 4],
 ) -> Step
     requires { ⌜ PlacesFit (now net) (now places) ⌝ }
     requires { ⌜ length (now begins) ≡ 65 ⌝ }
     requires { ⌜ variables ≤ length (now slots) ⌝ }
-    ensures { λ r. ⌜ IsMatch (now (net .entry)) (now (places .entry)) variables (now (marking .entry)) (now (begins .entry)) e at r × Knows variables (now (slots .entry)) (r .parts) (r .known) ⌝ }
+    requires { ⌜ Blank (now parts) (now known) ⌝ }
+    ensures { λ r. ⌜ IsMatch (now (net .entry)) (now (places .entry)) variables (now (marking .entry)) (now (begins .entry)) e at (now (parts .exit)) r × Noted variables (now (slots .entry)) (now (parts .exit)) (now (known .exit)) ⌝ }
 {
     match take(net, at, 5) {
         Taken::Word(q) => {
@@ -102,14 +100,13 @@ fn arrive_match(
             match skip_expression(net, variables, at + 1) {
                 Skipped::Next(first) => {
                     let width = payload(net[places[place]]) as usize;
-                    let parts = parts_at(net, variables, first, width);
+                    parts_at(net, variables, first, width, parts);
+                    known_parts(variables, slots, width, parts, known);
                     Step {
                         element: e,
                         count: (to - from) / (width + 1),
                         from: from,
                         width: width,
-                        parts: parts,
-                        known: known_parts(variables, slots, width, &parts),
                     }
                 }
                 Skipped::Refused(_, _) => no_tries(e),
@@ -131,11 +128,14 @@ pub fn arrive(
     begins: &[usize],
     e: Element,
     slots: &[u32],
+    parts: &mut [u32; 4],
+    known: &mut [u32; 4],
 ) -> Step
     requires { ⌜ PlacesFit (now net) (now places) ⌝ }
     requires { ⌜ length (now begins) ≡ 65 ⌝ }
     requires { ⌜ (variables ≤ length (now slots)) × (position + 1 + variables ≤ length (now net)) ⌝ }
-    ensures { λ r. ⌜ IsArrival (now (net .entry)) (now (places .entry)) position variables (now (inputs .entry)) (now (conjuncts .entry)) (now (marking .entry)) (now (begins .entry)) e (now (slots .entry)) r ⌝ }
+    requires { ⌜ Blank (now parts) (now known) ⌝ }
+    ensures { λ r. ⌜ IsArrival (now (net .entry)) (now (places .entry)) position variables (now (inputs .entry)) (now (conjuncts .entry)) (now (marking .entry)) (now (begins .entry)) e (now (slots .entry)) (now (parts .exit)) (now (known .exit)) r ⌝ }
 {
     let sort = e.sort;
     match sort {
@@ -143,7 +143,18 @@ pub fn arrive(
             if inputs.len() <= k {
                 return no_tries(e);
             }
-            arrive_match(net, places, variables, marking, begins, e, slots, inputs[k])
+            arrive_match(
+                net,
+                places,
+                variables,
+                marking,
+                begins,
+                e,
+                slots,
+                inputs[k],
+                parts,
+                known,
+            )
         }
         Sort::Solve(j) => {
             if conjuncts.len() <= j {
@@ -154,8 +165,6 @@ pub fn arrive(
                 count: 1,
                 from: conjuncts[j],
                 width: 0,
-                parts: [0; 4],
-                known: [0; 4],
             }
         }
         Sort::Range(n) => {
@@ -167,8 +176,6 @@ pub fn arrive(
                 count: count_values(net[position + 1 + n]),
                 from: 0,
                 width: 0,
-                parts: [0; 4],
-                known: [0; 4],
             }
         }
     }
@@ -182,6 +189,8 @@ pub fn try_at(
     variables: usize,
     marking: &[u32],
     s: Step,
+    parts: &[u32; 4],
+    known: &[u32; 4],
     slots: &mut [u32],
     saved: &[u32; 8],
     i: usize,
@@ -190,9 +199,9 @@ pub fn try_at(
     requires { ⌜ IsSaved (now slots) (now saved) ⌝ }
     requires { ⌜ Safe (now marking) variables s ⌝ }
     requires { ⌜ Ready (now net) variables s ⌝ }
-    requires { ⌜ Knows variables (now slots) (s .parts) (s .known) ⌝ }
+    requires { ⌜ Noted variables (now slots) (now parts) (now known) ⌝ }
     requires { ⌜ i < s .count ⌝ }
-    ensures { λ r. ⌜ IsTried variables (getD (triesBy (now (net .entry)) ranges variables (now (marking .entry)) s (partialOf variables (now (slots .entry)))) i none) (now (slots .entry)) r (now (slots .exit)) ⌝ }
+    ensures { λ r. ⌜ IsTried variables (getD (triesBy (now (net .entry)) ranges variables (now (marking .entry)) s (now (parts .entry)) (partialOf variables (now (slots .entry)))) i none) (now (slots .entry)) r (now (slots .exit)) ⌝ }
 {
     let e = s.element;
     let sort = e.sort;
@@ -200,7 +209,7 @@ pub fn try_at(
         Sort::Match(_) => {
             let width = s.width;
             let at = s.from + i * (width + 1) + 1;
-            if differs(marking, at, width, &s.known) {
+            if differs(marking, at, width, known) {
                 return false;
             }
             match_colour(
@@ -210,7 +219,7 @@ pub fn try_at(
                 marking,
                 at,
                 width,
-                &s.parts,
+                parts,
                 slots,
                 saved,
             )

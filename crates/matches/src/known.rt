@@ -4,8 +4,9 @@ use evaluation::evaluate::value_of;
 use numbers::number::Number;
 use word::fields::kind;
 use word::fields::payload;
+ghost use mathlib.Core.Path.{_≡_};
 ghost use Prim.Native.Nat.{_≤_, _+_};
-ghost use lib.ListN.{length};
+ghost use lib.ListN.{length, replicate};
 ghost use Rattle.semantics.specs.Tries.{partly};
 ghost use Rattle.tries.specs.Partial.{partialOf};
 ghost use Rattle.matches.specs.Known.{wanted, IsKnown, Knows, DiffersIf};
@@ -37,18 +38,23 @@ fn known_part(variables: usize, b: &[u32], part: u32) -> u32
     }
 }
 
-// The same of the first `width` components.
-pub fn known_parts(variables: usize, b: &[u32], width: usize, parts: &[u32; 4]) -> [u32; 4]
+// The same of the first `width` components, into words that are 0.
+pub fn known_parts(
+    variables: usize,
+    b: &[u32],
+    width: usize,
+    parts: &[u32; 4],
+    known: &mut [u32; 4],
+)
     requires { ⌜ (variables ≤ length (now b)) × (width ≤ 4) ⌝ }
-    ensures { λ r. ⌜ Knows variables (now (b .entry)) (now (parts .entry)) r ⌝ }
+    requires { ⌜ now known ≡ replicate 4 0 ⌝ }
+    ensures { λ r. ⌜ Knows variables (now (b .entry)) (now (parts .entry)) (now (known .exit)) ⌝ }
 {
-    let mut known = [0u32; 4];
     let mut i = 0;
     while i < width {
         known[i] = known_part(variables, b, parts[i]);
         i += 1;
     }
-    known
 }
 
 // Whether the colour at a position of the marking has another value where one is known.

@@ -4,7 +4,7 @@ use mathlib.Core.Path.{_≡_, sym, ap, _∙_, subst}
 use mathlib.Core.Bool.{Bool, true, false}
 use mathlib.Core.List.{List, [], map, List·Memᴰ}
 use mathlib.Core.Option.{Option, none, some}
-use Prim.Native.Nat.{ℕ, _+_, _<_}
+use Prim.Native.Nat.{ℕ, _+_, _≤_, _<_}
 use native.Mathlib.Omega.{arith}
 use lib.IntN.{ℤ}
 use lib.ListN.{length, getD, take, drop, drop-of-length-le}
@@ -21,21 +21,21 @@ use Rattle.semantics.specs.Calls.{Situation}
 use Rattle.semantics.proofs.Members.{number-member}
 use Rattle.semantics.proofs.Leaves.{Sound, sound-fits, sound-next, sound-leaf}
 use Rattle.semantics.proofs.Menu.{binding-full}
+use Rattle.net.specs.Places.{PlacesFit}
 use Rattle.occurrence.specs.Answers.{IsEnabledAt}
 use Rattle.elements.specs.declared.element.Element.{Element as CodeElement}
 use Rattle.elements.specs.Bound.{sorted}
 use Rattle.rows.specs.Rows.{valuesOfWords, IsValue, Listing, listingOf}
 use Rattle.arrivals.specs.declared.step.Step.{Step}
 use Rattle.tries.specs.Partial.{partialOf, IsTried, IsSaved}
-use Rattle.matches.specs.Known.{Knows}
-use Rattle.arrivals.specs.Step.{Safe, Ready, triesBy, IsArrival}
+use Rattle.arrivals.specs.Step.{Noted, Safe, Ready, triesBy, IsArrival}
 use Rattle.arrivals.specs.World.{World}
 use Rattle.arrivals.proofs.Tries.{arrival-ready, arrival-tries, tries-length}
 use Rattle.leaves.specs.declared.progress.Progress.{Progress}
 use Rattle.search.specs.Search.{costFrom, rowsFrom}
-use Rattle.leaves.specs.Leaf.{Unspent, Ended, IsLeaf}
+use Rattle.leaves.specs.Leaf.{Held, Unspent, Ended, IsLeaf}
 use Rattle.search.proofs.Trying.{rowsOver}
-use Rattle.search.proofs.Worlds.{next-element, as-many}
+use Rattle.search.proofs.Worlds.{few-inputs, next-element, as-many}
 use Rattle.search.proofs.Values.{slots-values, enabled-full}
 use Rattle.search.proofs.Steps.{cost-step, rows-step, cost-leaf, rows-leaf}
 
@@ -43,6 +43,26 @@ use Rattle.search.proofs.Steps.{cost-step, rows-step, cost-leaf, rows-l
 pub ended-same : {w most budget n : ℕ} {m : List ℕ} {t : ℕ} {l : Listing} {cost : ℕ} {rows : List (List ℤ)} {s′ : Progress} {m′ : List ℕ} {cost′ : ℕ} {rows′ : List (List ℤ)} → cost′ ≡ cost → rows′ ≡ rows → Ended w most budget n m t l cost rows s′ m′ → Ended w most budget n m t l cost′ rows′ s′ m′
 ended-same {w} {most} {budget} {n} {m} {t} {l} {cost} {rows} {s′} {m′} {cost′} {rows′} e f h =
     subst (λ (k : ℕ). Ended w most budget n m t l k rows′ s′ m′) (sym e) (subst (λ (rs : List (List ℤ)). Ended w most budget n m t l cost rs s′ m′) (sym f) h)
+
+-- a try that went on, and what the rest of the plan is handed
+pub record Onward (s : Situation) (v d : ℕ) (b : List ℕ) (most budget : ℕ) (cur : Progress) (m : List ℕ) : Type 0 where
+  pub sound : Sound (s .transition) (drop (d + 1) (s .transition .plan)) (partialOf v b)
+  pub long : length b ≡ v
+  pub held : Held v most (cur .rows) m
+  pub unspent : Unspent budget (record { tries = cur .tries + 1; rows = cur .rows; spent = cur .spent; full = cur .full })
+
+-- what the rest of the plan leaves of it, whether that was a leaf or a walk
+pub record Went (w most budget : ℕ) (cur : Progress) (m : List ℕ) (cost : ℕ) (rows : List (List ℤ)) (n : ℕ) (r : Progress) (m′ b′ : List ℕ) : Type 0 where
+  pub ended : Ended w most budget (cur .rows) m (cur .tries + 1) (listingOf w (cur .rows) (cur .full) m) cost rows r m′
+  pub as-long : length m′ ≡ length m
+  pub slots : length b′ ≡ n
+
+pub went : {w most budget : ℕ} {cur : Progress} {m : List ℕ} {cost : ℕ} {rows : List (List ℤ)} {n : ℕ} {r r₁ : Progress} {m′ m₁ b′ b₁ : List ℕ} → Ended w most budget (cur .rows) m (cur .tries + 1) (listingOf w (cur .rows) (cur .full) m) cost rows r₁ m₁ → length m₁ ≡ length m → length b₁ ≡ n → b′ ≡ b₁ → m′ ≡ m₁ → r ≡ r₁ → Went w most budget cur m cost rows n r m′ b′
+went {w} {most} {budget} {cur} {m} {cost} {rows} {r₁ = r₁} {m′ = m′} h k l e f g = record {
+  ended = subst (λ (c : Progress). Ended w most budget (cur .rows) m (cur .tries + 1) (listingOf w (cur .rows) (cur .full) m) cost rows c m′) (sym g) (subst (λ (x : List ℕ). Ended w most budget (cur .rows) m (cur .tries + 1) (listingOf w (cur .rows) (cur .full) m) cost rows r₁ x) (sym f) h);
+  as-long = ap length f ∙ k;
+  slots = ap length e ∙ l;
+}
 
 module _ {ws ps : List ℕ} {position v : ℕ} {inputs conjuncts elements ms begins : List ℕ} {s : Situation} (W : World ws ps position v inputs conjuncts elements ms begins s) (d : ℕ) (b : List ℕ) (S : Sound (s .transition) (drop d (s .transition .plan)) (partialOf v b)) where
   -- ── At the end of the plan ──
@@ -58,8 +78,12 @@ module _ {ws ps : List ℕ} {position v : ℕ} {inputs conjuncts elements ms beg
       all : take v b ≡ b
       all = take-all v b (omega arith)
 
-      pub leaf-values : Every IsValue b
+      leaf-values : Every IsValue b
       leaf-values = subst (Every IsValue) all (slots-values (take v b) (full .0) (full .1) .1)
+
+      -- what a leaf asks for
+      pub leaf-handed : {most n : ℕ} {m : List ℕ} → Held v most n m → PlacesFit ws ps × ((length begins ≡ 65) × ((length inputs ≤ 8) × (Every IsValue b × Held (length b) most n m)))
+      leaf-handed {most} {n} {m} k = (W .fits, (W .beginnings, (few-inputs W, (leaf-values, subst (λ (j : ℕ). Held j most n m) (sym l) k))))
 
       pub walked-leaf : {most budget : ℕ} {c : Progress} {m : List ℕ} {r : Progress} {m′ : List ℕ} → Unspent budget c → IsLeaf ws ps conjuncts inputs ms begins most b c m r m′ → Ended v most budget (c .rows) m (c .tries) (listingOf v (c .rows) (c .full) m) (costFrom s (drop d (s .transition .plan)) (partialOf v b)) (rowsFrom s (drop d (s .transition .plan)) (partialOf v b)) r m′
       walked-leaf {most} {budget} {c} {m} {r} {m′} u i =
@@ -73,41 +97,41 @@ module _ {ws ps : List ℕ} {position v : ℕ} {inputs conjuncts elements ms beg
   -- ── At an element ──
 
   -- the tries of a step, and what they come to
-  pub record Stepping (step : Step) : Type 0 where
+  pub record Stepping (parts known : List ℕ) (step : Step) : Type 0 where
     pub cost : costFrom s (drop d (s .transition .plan)) (partialOf v b) ≡ countTries (costFrom s (drop (d + 1) (s .transition .plan))) (tries houseTable (s .net) (s .transition) (s .counts) (sorted (step .element .sort)) (partialOf v b))
     pub rows : rowsFrom s (drop d (s .transition .plan)) (partialOf v b) ≡ rowsOver (rowsFrom s (drop (d + 1) (s .transition .plan))) (tries houseTable (s .net) (s .transition) (s .counts) (sorted (step .element .sort)) (partialOf v b))
     pub count : length (tries houseTable (s .net) (s .transition) (s .counts) (sorted (step .element .sort)) (partialOf v b)) ≡ step .count
-    pub same : triesBy ws (position + 1) v ms step (partialOf v b) ≡ tries houseTable (s .net) (s .transition) (s .counts) (sorted (step .element .sort)) (partialOf v b)
+    pub same : triesBy ws (position + 1) v ms step parts (partialOf v b) ≡ tries houseTable (s .net) (s .transition) (s .counts) (sorted (step .element .sort)) (partialOf v b)
     pub sound : (q : Partial) (i : ℕ) → i < length (tries houseTable (s .net) (s .transition) (s .counts) (sorted (step .element .sort)) (partialOf v b)) → getD (tries houseTable (s .net) (s .transition) (s .counts) (sorted (step .element .sort)) (partialOf v b)) i none ≡ some q → Sound (s .transition) (drop (d + 1) (s .transition .plan)) q
     pub safe : Safe ms v step
     pub ready : Ready ws v step
-    pub knows : Knows v b (step .parts) (step .known)
+    pub noted : Noted v b parts known
 
-  pub stepping : {e : CodeElement} {step : Step} → d < length elements → sorted (e .sort) ≡ sortOf (bits 8 9 (payload (getD ws (getD elements d 0) 0))) (bits 0 7 (payload (getD ws (getD elements d 0) 0))) → IsArrival ws ps position v inputs conjuncts ms begins e b step → Stepping step
-  stepping {e} {step} h k A =
+  pub stepping : {e : CodeElement} {parts known : List ℕ} {step : Step} → d < length elements → sorted (e .sort) ≡ sortOf (bits 8 9 (payload (getD ws (getD elements d 0) 0))) (bits 0 7 (payload (getD ws (getD elements d 0) 0))) → IsArrival ws ps position v inputs conjuncts ms begins e b parts known step → Stepping parts known step
+  stepping {e} {parts} {known} {step} h k A =
       let n = next-element W d h in
       let S′ = subst (λ (es : List Element). Sound (s .transition) es (partialOf v b)) (n .ahead) S in
       let f = sound-fits S′ in
       let g : sorted (e .sort) ≡ n .element .sort = k ∙ sym (n .there .sort) in
       let j : sorted (step .element .sort) ≡ sorted (e .sort) = ap (λ (x : CodeElement). sorted (x .sort)) (A .element) in
-      let t : triesBy ws (position + 1) v ms step (partialOf v b) ≡ tries houseTable (s .net) (s .transition) (s .counts) (sorted (e .sort)) (partialOf v b) = arrival-tries W A (partialOf v b) (f .0) (f .1 .0) (rw g (f .1 .1)) in
-      let u : triesBy ws (position + 1) v ms step (partialOf v b) ≡ tries houseTable (s .net) (s .transition) (s .counts) (sorted (step .element .sort)) (partialOf v b) = t ∙ ap (λ x. tries houseTable (s .net) (s .transition) (s .counts) x (partialOf v b)) (sym j) in
+      let t : triesBy ws (position + 1) v ms step parts (partialOf v b) ≡ tries houseTable (s .net) (s .transition) (s .counts) (sorted (e .sort)) (partialOf v b) = arrival-tries W A (partialOf v b) (f .0) (f .1 .0) (rw g (f .1 .1)) in
+      let u : triesBy ws (position + 1) v ms step parts (partialOf v b) ≡ tries houseTable (s .net) (s .transition) (s .counts) (sorted (step .element .sort)) (partialOf v b) = t ∙ ap (λ x. tries houseTable (s .net) (s .transition) (s .counts) x (partialOf v b)) (sym j) in
       let o : tries houseTable (s .net) (s .transition) (s .counts) (n .element .sort) (partialOf v b) ≡ tries houseTable (s .net) (s .transition) (s .counts) (sorted (step .element .sort)) (partialOf v b) = ap (λ x. tries houseTable (s .net) (s .transition) (s .counts) x (partialOf v b)) (sym (j ∙ g)) in
       record {
         cost = ap (λ (es : List Element). costFrom s es (partialOf v b)) (n .ahead) ∙ cost-step s (n .element) (drop (d + 1) (s .transition .plan)) (partialOf v b) ∙ ap (countTries (costFrom s (drop (d + 1) (s .transition .plan)))) o;
         rows = ap (λ (es : List Element). rowsFrom s es (partialOf v b)) (n .ahead) ∙ rows-step s (n .element) (drop (d + 1) (s .transition .plan)) (partialOf v b) ∙ ap (rowsOver (rowsFrom s (drop (d + 1) (s .transition .plan)))) o;
-        count = ap length (sym u) ∙ tries-length ws (position + 1) v ms step (partialOf v b);
+        count = ap length (sym u) ∙ tries-length ws (position + 1) v ms step parts (partialOf v b);
         same = u;
         sound = λ q i l x. sound-next houseTable (s .net) (s .counts) S′ q (subst (λ (os : List (Option Partial)). List·Memᴰ (some q) os) (sym o) (number-member (tries houseTable (s .net) (s .transition) (s .counts) (sorted (step .element .sort)) (partialOf v b)) i none (some q) l x));
         safe = A .safe;
         ready = arrival-ready W A;
-        knows = A .knows;
+        noted = A .noted;
       }
 
   -- a try of the code from slots that are equal, among them
-  module _ {step : Step} (P : Stepping step) (i : ℕ) {b₁ : List ℕ} (e : b₁ ≡ b) {on : Bool} {b′ : List ℕ} (x : IsTried v (getD (triesBy ws (position + 1) v ms step (partialOf v b₁)) i none) b₁ on b′) where
+  module _ {parts known : List ℕ} {step : Step} (P : Stepping parts known step) (i : ℕ) {b₁ : List ℕ} (e : b₁ ≡ b) {on : Bool} {b′ : List ℕ} (x : IsTried v (getD (triesBy ws (position + 1) v ms step parts (partialOf v b₁)) i none) b₁ on b′) where
     told : getD (tries houseTable (s .net) (s .transition) (s .counts) (sorted (step .element .sort)) (partialOf v b)) i none ≡ given on (partialOf v b′)
-    told = ap (λ (os : List (Option Partial)). getD os i none) (sym (P .same)) ∙ ap (λ (l : List ℕ). getD (triesBy ws (position + 1) v ms step (partialOf v l)) i none) (sym e) ∙ sym (x .same)
+    told = ap (λ (os : List (Option Partial)). getD os i none) (sym (P .same)) ∙ ap (λ (l : List ℕ). getD (triesBy ws (position + 1) v ms step parts (partialOf v l)) i none) (sym e) ∙ sym (x .same)
 
     pub try-on : on ≡ true → getD (tries houseTable (s .net) (s .transition) (s .counts) (sorted (step .element .sort)) (partialOf v b)) i none ≡ some (partialOf v b′)
     try-on f = told ∙ ap (λ (u : Bool). given u (partialOf v b′)) f
@@ -127,6 +151,6 @@ module _ {ws ps : List ℕ} {position v : ℕ} {inputs conjuncts elements ms beg
   pub kept-of : {b₁ saved : List ℕ} → b₁ ≡ b → IsSaved b saved → IsSaved b₁ saved
   kept-of {saved = saved} e k = subst (λ (l : List ℕ). IsSaved l saved) (sym e) k
 
-  -- what is known of components, under slots that are equal
-  pub knows-of : {step : Step} {b₁ : List ℕ} → Stepping step → b₁ ≡ b → Knows v b₁ (step .parts) (step .known)
-  knows-of {step} P e = subst (λ (l : List ℕ). Knows v l (step .parts) (step .known)) (sym e) (P .knows)
+  -- the words that were lent, under slots that are equal
+  pub noted-of : {parts known : List ℕ} {step : Step} {b₁ : List ℕ} → Stepping parts known step → b₁ ≡ b → Noted v b₁ parts known
+  noted-of {parts} {known} P e = subst (λ (l : List ℕ). Noted v l parts known) (sym e) (P .noted)

@@ -31,6 +31,7 @@ fn element_at(net: &[u32], at: usize) -> Element
 }
 
 // Walks the plan from the element `depth` on. A try writes the slots; what they held on arrival is put back after it, so they are left as they were.
+// A try of the last element that goes on is a leaf at once.
 pub fn walk(
     net: &[u32],
     places: &[usize],
@@ -70,6 +71,8 @@ pub fn walk(
             s,
         );
     }
+    let mut parts = [0u32; 4];
+    let mut known = [0u32; 4];
     let step = arrive(
         net,
         places,
@@ -81,6 +84,8 @@ pub fn walk(
         begins,
         element_at(net, elements[depth]),
         slots,
+        &mut parts,
+        &mut known,
     );
     let saved = save(slots);
     let mut cur = s;
@@ -98,27 +103,44 @@ pub fn walk(
             variables,
             marking,
             step,
+            &parts,
+            &known,
             slots,
             &saved,
             i,
         ) {
-            cur = walk(
-                net,
-                places,
-                position,
-                variables,
-                conjuncts,
-                inputs,
-                elements,
-                marking,
-                begins,
-                depth + 1,
-                slots,
-                menu,
-                most,
-                budget,
-                cur,
-            );
+            if depth + 1 == elements.len() {
+                cur = leaf(
+                    net,
+                    places,
+                    conjuncts,
+                    inputs,
+                    marking,
+                    begins,
+                    slots,
+                    menu,
+                    most,
+                    cur,
+                );
+            } else {
+                cur = walk(
+                    net,
+                    places,
+                    position,
+                    variables,
+                    conjuncts,
+                    inputs,
+                    elements,
+                    marking,
+                    begins,
+                    depth + 1,
+                    slots,
+                    menu,
+                    most,
+                    budget,
+                    cur,
+                );
+            }
             restore(slots, &saved);
             if cur.spent {
                 return cur;

@@ -1,5 +1,4 @@
 -- `arrivals::step::parts_at` meets its contract: the loop keeps `Parting`.
-use mathlib.Core.Path.{refl}
 use Prim.Native.Nat.{_-_}
 use native.Mathlib.Omega.{arith}
 use borrow.Author.Needs.{needs}
@@ -14,7 +13,7 @@ abbrev μ-loop : tie.MeasureT-loop
 μ-loop net variables at n parts₀ i₀ next₀ parts i next = n - i
 
 loop-holds : tie.Need-loop-holds Inv-loop μ-loop
-loop-holds c = parting-start _ _ _ _ _ refl
+loop-holds c = parting-start _ _ _ _ _ (c .before .pre .1)
 
 net-near : tie.Need-mul-parts Inv-loop μ-loop
 net-near c = let a = skip-ahead (c .before .before .before .skip-expression .ensures .1) (c .before .p .given .1) in let l = a .later in let i = a .in-limit in search needs
@@ -22,14 +21,14 @@ net-near c = let a = skip-ahead (c .before .before .before .skip-expression .ens
 net-there : tie.Need-shared-slice-read-parts Inv-loop μ-loop
 net-there c = let a = skip-ahead (c .before .before .before .before .skip-expression .ensures .1) (c .before .before .p .given .1) in let l = a .later in let i = a .in-words in omega arith
 
-part-there : tie.Need-array-write-parts Inv-loop μ-loop
-part-there c = let l = c .before .before .before .before .before .before .loop .inv .full in let k = c .before .before .before .before .before .loop-test .taken in let n = c .before .before .before .before .before .before .before .before .pre in omega arith
+part-there : tie.Need-element-write-parts Inv-loop μ-loop
+part-there c = let l = c .before .before .before .before .before .before .loop .inv .full in let k = c .before .before .before .before .before .loop-test .taken in let n = c .before .before .before .before .before .before .before .before .pre .0 in omega arith
 
 returns : tie.Need-returns Inv-loop μ-loop
 returns c = parting-stops (c .before .before .before .before .loop .inv) (c .before .before .before .loop-test .taken) (c .before .before .skip-expression .result) (c .before .before .skip-expression .ensures .0) (c .enum-told .given .1)
 
 loop-again : tie.Need-loop-again Inv-loop μ-loop
-loop-again c = parting-turn (c .before .before .before .before .before .before .loop .inv) (c .before .before .before .before .before .loop-test .taken) (c .before .before .before .before .skip-expression .result) (c .before .before .before .before .skip-expression .ensures .0) (c .before .before .p .given .1) (c .before .before .before .before .before .before .before .before .pre)
+loop-again c = parting-turn (c .before .before .before .before .before .before .loop .inv) (c .before .before .before .before .before .loop-test .taken) (c .before .before .before .before .skip-expression .result) (c .before .before .before .before .skip-expression .ensures .0) (c .before .before .p .given .1) (c .before .before .before .before .before .before .before .before .pre .0)
 
 returns-2 : tie.Need-returns-2 Inv-loop μ-loop
 returns-2 c = parting-ends (c .before .loop .inv) (c .loop-test .left)

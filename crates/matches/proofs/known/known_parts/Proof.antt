@@ -1,4 +1,4 @@
--- `matches::known::known_parts` meets its contract: the words so far are known, those ahead are 0 and say nothing.
+-- `matches::known::known_parts` meets its contract: the words so far are known, those ahead are 0 as they were lent and say nothing.
 use mathlib.Core.Path.{_≡_, refl, _∙_}
 use Prim.Native.Nat.{_-_}
 use native.Mathlib.Omega.{arith}
@@ -16,7 +16,7 @@ abbrev μ-loop : tie.MeasureT-loop
 μ-loop variables b width parts known₀ i₀ known i = width - i
 
 loop-holds : tie.Need-loop-holds Inv-loop μ-loop
-loop-holds c = (refl, knows-nothing _ _ _ 4)
+loop-holds c = let z = c .before .pre .1 in (rw z refl, rw z (knows-nothing _ _ _ 4))
 
 part-there : tie.Need-element-copy-out-known-part Inv-loop μ-loop
 part-there c = let k = c .loop-test .taken in let n = c .before .before .before .pre .1 in omega arith
@@ -24,7 +24,7 @@ part-there c = let k = c .loop-test .taken in let n = c .before .before .before 
 known-part-requires : tie.Need-known-part-requires Inv-loop μ-loop
 known-part-requires c κs = search needs
 
-word-there : tie.Need-array-write-known Inv-loop μ-loop
+word-there : tie.Need-element-write-known Inv-loop μ-loop
 word-there c = let k = c .before .before .loop-test .taken in let n = c .before .before .before .before .before .pre .1 in omega arith
 
 loop-again : tie.Need-loop-again Inv-loop μ-loop
