@@ -72,10 +72,10 @@ module _ {ws ps : List ℕ} {position v : ℕ} {inputs conjuncts elements ms beg
 
   -- an input arc
   module _ (k : ℕ) (a : Arc) (e : getElem? (s .transition .inputs) k ≡ some a) where
-    arc-inside : k < length inputs
+    pub arc-inside : k < length inputs
     arc-inside = rw (w .arcs, length-map (s .transition .inputs) (λ (a : Arc). a .position)) (at-length (s .transition .inputs) k a e)
 
-    arc-here : (next : ℕ) × (readArc ws (placesAt ws ps) v (getD inputs k 0) ≡ read a next)
+    pub arc-here : (next : ℕ) × (readArc ws (placesAt ws ps) v (getD inputs k 0) ≡ read a next)
     arc-here =
         let h = Every-at (At (readArc ws (s .net .places) (length (s .transition .variables))) (λ (a : Arc). a .position)) (pieces .inputs) (at-member (s .transition .inputs) k a e) in
         let i : getD inputs k 0 ≡ a .position = ap (λ (l : List ℕ). getD l k 0) (w .arcs) ∙ map-elem (λ (a : Arc). a .position) (s .transition .inputs) k a 0 e in (
@@ -86,7 +86,7 @@ module _ {ws ps : List ℕ} {position v : ℕ} {inputs conjuncts elements ms beg
               ∙ h .reads,
         )
 
-    arc-sound : SoundArc (s .net .places) (length (s .transition .variables)) a
+    pub arc-sound : SoundArc (s .net .places) (length (s .transition .variables)) a
     arc-sound = Every-at (SoundArc (s .net .places) (length (s .transition .variables))) (sound .inputs) (at-member (s .transition .inputs) k a e)
 
     arc-few : a .place < 64
@@ -124,18 +124,21 @@ module _ {ws ps : List ℕ} {position v : ℕ} {inputs conjuncts elements ms beg
         by h (inr q) = let z = t .1 (ltb-false k (length conjuncts) q) in absurd (omega arith)
     ready-by (InRange n) t = tt
 
+    -- what a match knows of its arc
+    module _ (k : ℕ) (x : Arc) (named : getElem? (s .transition .inputs) k ≡ some x) where
+      pub match-aim : Told ws ps position v inputs conjuncts ms begins e parts r (Match k) → Aimed begins x parts r
+      match-aim t =
+          let i = place-inside (s .net) ms (w .entries) (w .end) (w .marked) begins (w .begun) (x .place) (arc-few k x named) in
+          let h = arc-here k x named in
+          t .0 (arc-inside k x named) .aimed x (h .0) (h .1) (i .0) (i .1)
+
     module _ (p : Partial) (n : ℕ) (ns : List ℕ) where
       tries-match : (k : ℕ) → Told ws ps position v inputs conjuncts ms begins e parts r (Match k) → FitMatch (s .transition) (isBoundIn p) k (n ∷ ns) → triesOf ws (position + 1) v ms r parts p (Match k) ≡ tries houseTable (s .net) (s .transition) (s .counts) (sorted (Match k)) p
       unfolding tries
       tries-match k t f = rw (f .named) (ap (λ (l : List (List ℤ)). map (λ c. matchedBy (rangesFrom ws v (position + 1)) (take (r .width) parts) c p) l) same ∙ ap (λ (g : List ℤ → Option Partial). map g (coloursOn (s .net) (s .counts) (f .arc .place))) (fun-ext held))
         where
-          inside : (getD begins (f .arc .place) 0 ≤ getD begins (f .arc .place + 1) 0) × (getD begins (f .arc .place + 1) 0 ≤ length ms)
-          inside = place-inside (s .net) ms (w .entries) (w .end) (w .marked) begins (w .begun) (f .arc .place) (arc-few k (f .arc) (f .named))
-
           aim : Aimed begins (f .arc) parts r
-          aim =
-              let h = arc-here k (f .arc) (f .named) in
-              t .0 (arc-inside k (f .arc) (f .named)) .aimed (f .arc) (h .0) (h .1) (inside .0) (inside .1)
+          aim = match-aim k (f .arc) (f .named) t
 
           width : r .width ≡ length (rangesAt (s .net .places) (f .arc .place))
           width = aim .wide ∙ arc-sound k (f .arc) (f .named) .width

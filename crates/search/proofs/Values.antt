@@ -61,8 +61,11 @@ full-at [] n = refl
 full-at (z ∷ zs) zero = refl
 full-at (z ∷ zs) (suc n) = full-at zs n
 
+pub full-bound : (zs : List ℤ) → partly (map some zs) ≡ bound zs
+full-bound zs = fun-ext (full-at zs)
+
 pub full-lent : (v : ℕ) (b : List ℕ) (zs : List ℤ) → partialOf v b ≡ map some zs → lent (take v b) ≡ bound zs
-full-lent v b zs e = slots-lent v b ∙ ap partly e ∙ fun-ext (full-at zs)
+full-lent v b zs e = slots-lent v b ∙ ap partly e ∙ full-bound zs
 
 module _ {ws ps : List ℕ} {position v : ℕ} {inputs conjuncts elements ms begins : List ℕ} {s : Situation} (W : World ws ps position v inputs conjuncts elements ms begins s) (b : List ℕ) (zs : List ℤ) (e : partialOf v b ≡ map some zs) (l : length (take v b) ≡ v) where
   pub enabled-full : (r : Bool) → IsEnabledAt ws ps conjuncts inputs ms begins (take v b) r → r ≡ isEnabled houseTable (s .transition) (s .counts) zs

@@ -7,7 +7,7 @@ use mathlib.Core.Option.{Option, none, some}
 use Prim.Native.Nat.{ℕ, _+_, _≤_, _<_}
 use native.Mathlib.Omega.{arith}
 use lib.IntN.{ℤ}
-use lib.ListN.{length, getD, take, drop, drop-of-length-le}
+use lib.ListN.{length, getD, take, drop, drop-of-length-le, length-map}
 use lib.Seq.{take-all}
 use Rattle.semantics.specs.Lists.{Every, consIf}
 use Rattle.semantics.specs.Word.{payload, bits}
@@ -22,6 +22,8 @@ use Rattle.semantics.proofs.Members.{number-member}
 use Rattle.semantics.proofs.Leaves.{Sound, sound-fits, sound-next, sound-leaf}
 use Rattle.semantics.proofs.Menu.{binding-full}
 use Rattle.net.specs.Places.{PlacesFit}
+use Rattle.evaluation.specs.Evaluate.{valueOf}
+use Rattle.spares.specs.Spare.{without, IsSpare}
 use Rattle.occurrence.specs.Answers.{IsEnabledAt}
 use Rattle.elements.specs.declared.element.Element.{Element as CodeElement}
 use Rattle.elements.specs.Bound.{sorted}
@@ -36,7 +38,8 @@ use Rattle.search.specs.Search.{costFrom, rowsFrom}
 use Rattle.leaves.specs.Leaf.{Held, Unspent, Ended, IsLeaf}
 use Rattle.search.proofs.Trying.{rowsOver}
 use Rattle.search.proofs.Worlds.{few-inputs, next-element, as-many}
-use Rattle.search.proofs.Values.{slots-values, enabled-full}
+use Rattle.search.proofs.Values.{slots-values, full-lent, enabled-full}
+use Rattle.search.proofs.Sparing.{told-without, told-spared}
 use Rattle.search.proofs.Steps.{cost-step, rows-step, cost-leaf, rows-leaf}
 
 -- the same, of costs and rows that are equal
@@ -81,18 +84,28 @@ module _ {ws ps : List ℕ} {position v : ℕ} {inputs conjuncts elements ms beg
       leaf-values : Every IsValue b
       leaf-values = subst (Every IsValue) all (slots-values (take v b) (full .0) (full .1) .1)
 
-      -- what a leaf asks for
-      pub leaf-handed : {most n : ℕ} {m : List ℕ} → Held v most n m → PlacesFit ws ps × ((length begins ≡ 65) × ((length inputs ≤ 8) × (Every IsValue b × Held (length b) most n m)))
-      leaf-handed {most} {n} {m} k = (W .fits, (W .beginnings, (few-inputs W, (leaf-values, subst (λ (j : ℕ). Held j most n m) (sym l) k))))
+      -- what a leaf asks for, to look up some arcs
+      pub leaf-handed : (tested : List ℕ) {most n : ℕ} {m : List ℕ} → length tested ≤ 8 → Held v most n m → PlacesFit ws ps × ((length begins ≡ 65) × ((length tested ≤ 8) × (Every IsValue b × Held (length b) most n m)))
+      leaf-handed tested {most} {n} {m} f k = (W .fits, (W .beginnings, (f, (leaf-values, subst (λ (j : ℕ). Held j most n m) (sym l) k))))
 
-      pub walked-leaf : {most budget : ℕ} {c : Progress} {m : List ℕ} {r : Progress} {m′ : List ℕ} → Unspent budget c → IsLeaf ws ps conjuncts inputs ms begins most b c m r m′ → Ended v most budget (c .rows) m (c .tries) (listingOf v (c .rows) (c .full) m) (costFrom s (drop d (s .transition .plan)) (partialOf v b)) (rowsFrom s (drop d (s .transition .plan)) (partialOf v b)) r m′
-      walked-leaf {most} {budget} {c} {m} {r} {m′} u i =
+      -- a leaf that looks up arcs by which it is told whether its binding is enabled
+      leaf-ended : {tested : List ℕ} {most budget : ℕ} {c : Progress} {m : List ℕ} {r : Progress} {m′ : List ℕ} → ((q : Bool) → IsEnabledAt ws ps conjuncts tested ms begins (take v b) q → q ≡ isEnabled houseTable (s .transition) (s .counts) (full .0)) → Unspent budget c → IsLeaf ws ps conjuncts tested ms begins most b c m r m′ → Ended v most budget (c .rows) m (c .tries) (listingOf v (c .rows) (c .full) m) (costFrom s (drop d (s .transition .plan)) (partialOf v b)) (rowsFrom s (drop d (s .transition .plan)) (partialOf v b)) r m′
+      leaf-ended {tested} {most} {budget} {c} {m} {r} {m′} told u i =
           let zs = full .0 in
           let f : bindingOf (partialOf v b) ≡ zs = ap bindingOf (full .1) ∙ binding-full zs in
           let g : valuesOfWords b ≡ zs = ap valuesOfWords (sym all) ∙ slots-values (take v b) zs (full .1) .0 in
           ended-same (ap (λ (es : List Element). costFrom s es (partialOf v b)) none-left ∙ cost-leaf s (partialOf v b))
           (ap (λ (es : List Element). rowsFrom s es (partialOf v b)) none-left ∙ rows-leaf s (partialOf v b) ∙ ap (λ (ys : List ℤ). consIf (isEnabled houseTable (s .transition) (s .counts) ys) ys []) f ∙ ap (λ (ys : List ℤ). consIf (isEnabled houseTable (s .transition) (s .counts) zs) ys []) (sym g))
-          (subst (λ (k : ℕ). Ended k most budget (c .rows) m (c .tries) (listingOf k (c .rows) (c .full) m) 0 (consIf (isEnabled houseTable (s .transition) (s .counts) zs) (valuesOfWords b) []) r m′) l (i .ended budget u (isEnabled houseTable (s .transition) (s .counts) zs) (λ q x. enabled-full W b zs (full .1) (ap length all ∙ l) q (subst (λ (bs : List ℕ). IsEnabledAt ws ps conjuncts inputs ms begins bs q) (sym all) x))))
+          (subst (λ (k : ℕ). Ended k most budget (c .rows) m (c .tries) (listingOf k (c .rows) (c .full) m) 0 (consIf (isEnabled houseTable (s .transition) (s .counts) zs) (valuesOfWords b) []) r m′) l (i .ended budget u (isEnabled houseTable (s .transition) (s .counts) zs) (λ q x. told q (subst (λ (bs : List ℕ). IsEnabledAt ws ps conjuncts tested ms begins bs q) (sym all) x))))
+
+      pub walked-leaf : {most budget : ℕ} {c : Progress} {m : List ℕ} {r : Progress} {m′ : List ℕ} → Unspent budget c → IsLeaf ws ps conjuncts inputs ms begins most b c m r m′ → Ended v most budget (c .rows) m (c .tries) (listingOf v (c .rows) (c .full) m) (costFrom s (drop d (s .transition .plan)) (partialOf v b)) (rowsFrom s (drop d (s .transition .plan)) (partialOf v b)) r m′
+      walked-leaf u i = leaf-ended (λ q x. enabled-full W b (full .0) (full .1) (ap length all ∙ l) q x) u i
+
+      -- behind a try of an arrival with the slots b₀, all input arcs are looked up but one that is spared
+      pub spared-leaf : {e : CodeElement} {b₀ parts known : List ℕ} {step : Step} → IsArrival ws ps position v inputs conjuncts ms begins e b₀ parts known step → length b₀ ≡ v → {k : ℕ} → IsSpare ws inputs (step .element) parts (step .width) k → {tested : List ℕ} → tested ≡ without inputs k → (i : ℕ) → i < length (tries houseTable (s .net) (s .transition) (s .counts) (sorted (step .element .sort)) (partialOf v b₀)) → getD (tries houseTable (s .net) (s .transition) (s .counts) (sorted (step .element .sort)) (partialOf v b₀)) i none ≡ some (partialOf v b) → {most budget : ℕ} {c : Progress} {m : List ℕ} {r : Progress} {m′ : List ℕ} → Unspent budget c → IsLeaf ws ps conjuncts tested ms begins most b c m r m′ → Ended v most budget (c .rows) m (c .tries) (listingOf v (c .rows) (c .full) m) (costFrom s (drop d (s .transition .plan)) (partialOf v b)) (rowsFrom s (drop d (s .transition .plan)) (partialOf v b)) r m′
+      spared-leaf {b₀ = b₀} A l₀ {k} sp e i h on u x =
+          let n : length (partialOf v b₀) ≡ length (s .transition .variables) = length-map (take v b₀) valueOf ∙ ap length (take-all v b₀ (omega arith)) ∙ l₀ ∙ W .many in
+          leaf-ended (λ q y. told-without W k e (take v b) (full .0) (ap length all ∙ l) (full-lent v b (full .0) (full .1)) y ∙ told-spared W A sp (partialOf v b) (full .0) (full .1) n i h on) u x
 
   -- ── At an element ──
 

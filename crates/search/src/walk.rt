@@ -5,6 +5,8 @@ use elements::element::Element;
 use elements::element::element_of;
 use leaves::leaf::leaf;
 use leaves::progress::Progress;
+use spares::spare::leave_out;
+use spares::spare::spare_of;
 use tries::partial::restore;
 use tries::partial::save;
 use word::fields::payload;
@@ -31,7 +33,7 @@ fn element_at(net: &[u32], at: usize) -> Element
 }
 
 // Walks the plan from the element `depth` on. A try writes the slots; what they held on arrival is put back after it, so they are left as they were.
-// A try of the last element that goes on is a leaf at once.
+// A try of the last element that goes on is a leaf at once, which need not look up the arc that was matched, where that arc is spared.
 pub fn walk(
     net: &[u32],
     places: &[usize],
@@ -87,7 +89,15 @@ pub fn walk(
         &mut parts,
         &mut known,
     );
-    let saved = save(slots);
+    let e = step.element;
+    let mut tested = [0usize; 8];
+    let n = leave_out(
+        inputs,
+        spare_of(net, inputs, e, &parts, step.width),
+        &mut tested,
+    );
+    let mut saved = [0u32; 8];
+    save(slots, &mut saved);
     let mut cur = s;
     let mut i = 0;
     while i < step.count {
@@ -114,7 +124,7 @@ pub fn walk(
                     net,
                     places,
                     conjuncts,
-                    inputs,
+                    &tested[..n],
                     marking,
                     begins,
                     slots,

@@ -164,6 +164,6 @@ module _ {inputs : List ℕ} {k : ℕ} {rest : List ℕ} {n j : ℕ} (L : Left i
   }
 
 pub left-end : {inputs : List ℕ} {k : ℕ} {rest : List ℕ} {n j : ℕ} → Left inputs k rest n j → length inputs ≤ j → length inputs ≤ 8 → IsRest inputs k rest n
-left-end {inputs} {k} {j = j} L h m = record { same = L .same ∙ ap (λ (r : List ℕ). without r k) (take-all j inputs h); few = let f = L .few in let i = L .inside in omega arith }
+left-end {inputs} {k} {j = j} L h m = record { full = L .long; same = L .same ∙ ap (λ (r : List ℕ). without r k) (take-all j inputs h); few = let f = L .few in let i = L .inside in omega arith }
 
 pub ruleset sparing = (needs, lone-start, lone-turn, lone-yes, lone-no, alone-start, alone-own, alone-turn, alone-yes, alone-no, within-arc, within-next, spare-none, spare-found, left-start, left-own, left-room, left-turn, left-end)

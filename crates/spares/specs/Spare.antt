@@ -46,5 +46,6 @@ pub record IsSpare (ws inputs : List ℕ) (e : Element) (parts : List ℕ) (widt
 
 -- so many positions at the front are those of a list without one
 pub record IsRest (inputs : List ℕ) (k : ℕ) (rest : List ℕ) (r : ℕ) : Type 0 where
-  pub same : take r rest ≡ without inputs k
+  pub full : length rest ≡ 8
   pub few : r ≤ 8
+  pub same : take r rest ≡ without inputs k

@@ -48,7 +48,6 @@ fn alone(net: &[u32], inputs: &[usize], k: usize) -> bool
 // are known.
 pub fn spare_of(net: &[u32], inputs: &[usize], e: Element, parts: &[u32; 4], width: usize) -> usize
     requires { ⌜ Within (now net) (now inputs) ⌝ }
-    requires { ⌜ width ≤ 4 ⌝ }
     ensures { λ r. ⌜ IsSpare (now (net .entry)) (now (inputs .entry)) e (now (parts .entry)) width r ⌝ }
 {
     let none = inputs.len();
@@ -59,6 +58,9 @@ pub fn spare_of(net: &[u32], inputs: &[usize], e: Element, parts: &[u32; 4], wid
                 return none;
             }
             if net[inputs[k] + 1] != 0x7000_0001 {
+                return none;
+            }
+            if 4 < width {
                 return none;
             }
             if !lone_parts(parts, width) {

@@ -10,18 +10,16 @@ ghost use Rattle.semantics.specs.Tries.{bindNew};
 ghost use Rattle.net.specs.Places.{rangesFrom};
 ghost use Rattle.tries.specs.Partial.{partialOf, IsTried, IsSaved};
 
-// The words of the slots, kept to be put back.
-pub fn save(slots: &[u32]) -> [u32; 8]
-    requires { ⌜ length (now slots) ≤ 8 ⌝ }
-    ensures { λ r. ⌜ IsSaved (now (slots .entry)) r ⌝ }
+// Keeps the words of the slots, to be put back.
+pub fn save(slots: &[u32], saved: &mut [u32; 8])
+    requires { ⌜ (length (now slots) ≤ 8) × (length (now saved) ≡ 8) ⌝ }
+    ensures { λ r. ⌜ IsSaved (now (slots .entry)) (now (saved .exit)) ⌝ }
 {
-    let mut saved = [0u32; 8];
     let mut n = 0;
     while n < slots.len() {
         saved[n] = slots[n];
         n += 1;
     }
-    saved
 }
 
 // Puts the words back that were kept.

@@ -8,7 +8,8 @@ use native.Mathlib.Omega.{arith}
 use borrow.Author.Needs.{needs}
 use borrow.Fn.Kinds.{In}
 use borrow.Fn.PlainCycle.{Measures, is, falls, and}
-use lib.ListN.{length, drop}
+use lib.ListN.{length, take, drop, length-take}
+use lib.Seq.{length-take-le}
 use Rattle.semantics.specs.Expression.{houseTable}
 use Rattle.semantics.specs.Tries.{tries}
 use Rattle.elements.specs.Bound.{sorted}
@@ -17,13 +18,16 @@ use Rattle.tries.specs.Partial.{partialOf}
 use Rattle.search.specs.Scene.{sceneOf}
 use Rattle.search.specs.Search.{costFrom, rowsFrom}
 use Rattle.search.proofs.Trying.{Trying, trying-start, ended-all, ended-spent, trying-skip, trying-same, ended-stop, trying-turn}
-use Rattle.search.proofs.Worlds.{few-variables, few-elements, ranges-fit, next-element}
-use Rattle.search.proofs.Walking.{Onward, Went, went, ended-same, leaf-handed, walked-leaf, stepping, try-on, try-off, try-left, back, kept-of, noted-of}
+use Rattle.search.proofs.Worlds.{few-variables, few-inputs, few-elements, ranges-fit, next-element}
+use Rattle.search.proofs.Sparing.{inputs-within}
+use Rattle.search.proofs.Walking.{Onward, Went, went, ended-same, leaf-handed, walked-leaf, spared-leaf, stepping, try-on, try-off, try-left, back, kept-of, noted-of}
 use Rattle.search.proofs.walk.walk.Reads as walk
 use Rattle.search.proofs.walk.walk.Kinds as walk-kinds
 use Rattle.search.proofs.walk.+walk.Lts-walk as walk-lts
 use Rattle.leaves.proofs.leaf.leaf.Reads as leaf-reads
 use Rattle.search.proofs.walk.element_at.Reads as element-at-reads
+use Rattle.spares.proofs.spare.leave_out.Reads as leave-out-reads
+use Rattle.spares.proofs.spare.spare_of.Reads as spare-of-reads
 use Rattle.tries.proofs.partial.restore.Reads as restore-reads
 use Rattle.tries.proofs.partial.save.Reads as save-reads
 use Rattle.arrivals.proofs.step.arrive.Reads as arrive-reads
@@ -41,20 +45,20 @@ abbrev walk-below : ℕ → In 9 walk-kinds.ps
 walk-below t = and 9 walk-kinds.ps (falls 9 walk-kinds.ps _<_ μ-walk t) walk.Pre
 
 abbrev calls : ℕ → walk-lts.Claims
-calls t = (leaf-reads.Asked, leaf-reads.Learnt, element-at-reads.Asked, element-at-reads.Learnt, arrive-reads.Asked, arrive-reads.Learnt, save-reads.Asked, save-reads.Learnt, try-at-reads.Asked, try-at-reads.Learnt, walk-below t, walk.Post, restore-reads.Asked, restore-reads.Learnt)
+calls t = (leaf-reads.Asked, leaf-reads.Learnt, element-at-reads.Asked, element-at-reads.Learnt, arrive-reads.Asked, arrive-reads.Learnt, spare-of-reads.Asked, spare-of-reads.Learnt, leave-out-reads.Asked, leave-out-reads.Learnt, save-reads.Asked, save-reads.Learnt, try-at-reads.Asked, try-at-reads.Learnt, walk-below t, walk.Post, restore-reads.Asked, restore-reads.Learnt)
 
 abbrev walk-Inv-loop : walk-lts.InvT-loop
-walk-Inv-loop net places position variables conjuncts inputs elements marking begins depth slots₀ menu₀ most budget parts known step saved cur₀ i₀ slots menu cur i =
+walk-Inv-loop net places position variables conjuncts inputs elements marking begins depth slots₀ menu₀ most budget parts known step tested n saved cur₀ i₀ slots menu cur i =
     Trying variables most budget (costFrom (sceneOf net position marking) (drop (depth + 1) (sceneOf net position marking .transition .plan))) (rowsFrom (sceneOf net position marking) (drop (depth + 1) (sceneOf net position marking .transition .plan))) (tries houseTable (sceneOf net position marking .net) (sceneOf net position marking .transition) (sceneOf net position marking .counts) (sorted (step .element .sort)) (partialOf variables slots₀)) (cur₀ .rows) menu₀ (cur₀ .tries) (listingOf variables (cur₀ .rows) (cur₀ .full) menu₀) i cur menu
     × (slots ≡ slots₀)
 
 abbrev walk-μ-loop : walk-lts.MeasureT-loop
-walk-μ-loop net places position variables conjuncts inputs elements marking begins depth slots₀ menu₀ most budget parts known step saved cur₀ i₀ slots menu cur i = step .count - i
+walk-μ-loop net places position variables conjuncts inputs elements marking begins depth slots₀ menu₀ most budget parts known step tested n saved cur₀ i₀ slots menu cur i = step .count - i
 
 walk-leaf-requires : (t : ℕ) → walk-lts.Need-leaf-requires (calls t) (walk-at t) walk.Post walk-Inv-loop walk-μ-loop
 walk-leaf-requires t c κs =
     let st = c .before .before .before .before .before .before .before .before .before .before .before .before in
-    leaf-handed (st .pre .1 .0) (st .args .depth) (st .args .slots .now) (st .pre .1 .1 .1 .0) (c .before .before .if1 .taken) (st .pre .1 .1 .0 .1) (st .pre .1 .1 .1 .1 .0)
+    leaf-handed (st .pre .1 .0) (st .args .depth) (st .args .slots .now) (st .pre .1 .1 .1 .0) (c .before .before .if1 .taken) (st .pre .1 .1 .0 .1) (st .args .inputs .now) (few-inputs (st .pre .1 .0)) (st .pre .1 .1 .1 .1 .0)
 
 walk-returns : (t : ℕ) → walk-lts.Need-returns (calls t) (walk-at t) walk.Post walk-Inv-loop walk-μ-loop
 walk-returns t c =
@@ -78,16 +82,22 @@ walk-arrive-requires t c κs =
     let l = st .pre .1 .1 .0 .1 in
     (W .fits, (W .beginnings, ((omega arith, ranges-fit W), record { full = refl; blank = refl })))
 
+walk-spare-of-requires : (t : ℕ) → walk-lts.Need-spare-of-requires (calls t) (walk-at t) walk.Post walk-Inv-loop walk-μ-loop
+walk-spare-of-requires t c κs = inputs-within (c .before .before .before .before .before .before .before .before .before .before .before .before .before .before .before .before .before .before .pre .1 .0)
+
+walk-leave-out-requires : (t : ℕ) → walk-lts.Need-leave-out-requires (calls t) (walk-at t) walk.Post walk-Inv-loop walk-μ-loop
+walk-leave-out-requires t c κs = (few-inputs (c .before .before .before .before .before .before .before .before .before .before .before .before .before .before .before .before .before .before .before .before .pre .1 .0), refl)
+
 walk-save-requires : (t : ℕ) → walk-lts.Need-save-requires (calls t) (walk-at t) walk.Post walk-Inv-loop walk-μ-loop
 walk-save-requires t c κs =
-    let st = c .before .before .before .before .before .before .before .before .before .before .before .before .before .before .before .before .before in
+    let st = c .before .before .before .before .before .before .before .before .before .before .before .before .before .before .before .before .before .before .before .before .before .before .before in
     let W = st .pre .1 .0 in
     let l = st .pre .1 .1 .0 .1 in
     let v = few-variables W in
-    omega arith
+    (omega arith, refl)
 
 walk-loop-holds : (t : ℕ) → walk-lts.Need-loop-holds (calls t) (walk-at t) walk.Post walk-Inv-loop walk-μ-loop
-walk-loop-holds t c = let st = c .before .before .before .before .before .before .before .before .before .before .before .before .before .before .before .before .before .before in (trying-start _ _ _ _ _ _ _ _ (st .pre .1 .1 .1 .1 .0) (st .pre .1 .1 .1 .1 .1), refl)
+walk-loop-holds t c = let st = c .before .before .before .before .before .before .before .before .before .before .before .before .before .before .before .before .before .before .before .before .before .before .before .before in (trying-start _ _ _ _ _ _ _ _ (st .pre .1 .1 .1 .1 .0) (st .pre .1 .1 .1 .1 .1), refl)
 
 walk-same-length-3 : (t : ℕ) → walk-lts.Need-same-length-3 (calls t) (walk-at t) walk.Post walk-Inv-loop walk-μ-loop
 walk-same-length-3 t c = ap length (c .before .before .before .loop .inv .1)
@@ -97,39 +107,39 @@ walk-same-length-4 t c = c .before .before .before .loop .inv .0 .as-long
 
 walk-returns-2 : (t : ℕ) → walk-lts.Need-returns-2 (calls t) (walk-at t) walk.Post walk-Inv-loop walk-μ-loop
 walk-returns-2 t c =
-    let st = c .before .before .before .before .before .before .before .before .before .before .before .before .before .before .before .before .before .before .before .before .before .before in
+    let st = c .before .before .before .before .before .before .before .before .before .before .before .before .before .before .before .before .before .before .before .before .before .before .before .before .before .before .before .before in
     let W = st .pre .1 .0 in
     let d = st .args .depth in
     let b = st .args .slots .now in
     let S = st .pre .1 .1 .1 .0 in
-    let P = stepping W d b S (let h = st .pre .1 .1 .0 .0 in let n = c .before .before .before .before .before .before .before .before .before .before .before .before .if1 .left in omega arith) (c .before .before .before .before .before .before .before .before .before .before .element-at .ensures) (c .before .before .before .before .before .before .arrive .ensures) in
+    let P = stepping W d b S (let h = st .pre .1 .1 .0 .0 in let n = c .before .before .before .before .before .before .before .before .before .before .before .before .before .before .before .before .before .before .if1 .left in omega arith) (c .before .before .before .before .before .before .before .before .before .before .before .before .before .before .before .before .element-at .ensures) (c .before .before .before .before .before .before .before .before .before .before .before .before .arrive .ensures) in
     (ended-same (P .cost) (P .rows) (ended-spent (c .before .before .before .loop .inv .0) (rw (P .count) (c .before .if2 .taken)) (c .if3 .taken)), c .before .before .before .loop .inv .1)
 
 walk-add-cur : (t : ℕ) → walk-lts.Need-add-cur (calls t) (walk-at t) walk.Post walk-Inv-loop walk-μ-loop
-walk-add-cur t c = let k = c .if3 .left in let f = c .before .before .before .before .before .before .before .before .before .before .before .before .before .before .before .before .before .before .before .before .before .before .fits .budget in search needs
+walk-add-cur t c = let k = c .if3 .left in let f = c .before .before .before .before .before .before .before .before .before .before .before .before .before .before .before .before .before .before .before .before .before .before .before .before .before .before .before .before .fits .budget in search needs
 
 walk-add-try-at : (t : ℕ) → walk-lts.Need-add-try-at (calls t) (walk-at t) walk.Post walk-Inv-loop walk-μ-loop
-walk-add-try-at t c = let r = ranges-fit (c .before .before .before .before .before .before .before .before .before .before .before .before .before .before .before .before .before .before .before .before .before .before .pre .1 .0) in let g = c .before .before .before .before .before .before .before .before .before .before .before .before .before .before .before .before .before .before .before .before .before .before .good .0 in search needs
+walk-add-try-at t c = let r = ranges-fit (c .before .before .before .before .before .before .before .before .before .before .before .before .before .before .before .before .before .before .before .before .before .before .before .before .before .before .before .before .pre .1 .0) in let g = c .before .before .before .before .before .before .before .before .before .before .before .before .before .before .before .before .before .before .before .before .before .before .before .before .before .before .before .before .good .0 in search needs
 
 walk-try-at-requires : (t : ℕ) → walk-lts.Need-try-at-requires (calls t) (walk-at t) walk.Post walk-Inv-loop walk-μ-loop
 walk-try-at-requires t c κs =
-    let st = c .before .before .before .before .before .before .before .before .before .before .before .before .before .before .before .before .before .before .before .before .before .before .before .before .before .before in
+    let st = c .before .before .before .before .before .before .before .before .before .before .before .before .before .before .before .before .before .before .before .before .before .before .before .before .before .before .before .before .before .before .before .before in
     let W = st .pre .1 .0 in
     let d = st .args .depth in
     let b = st .args .slots .now in
     let S = st .pre .1 .1 .1 .0 in
-    let P = stepping W d b S (let h = st .pre .1 .1 .0 .0 in let n = c .before .before .before .before .before .before .before .before .before .before .before .before .before .before .before .before .if1 .left in omega arith) (c .before .before .before .before .before .before .before .before .before .before .before .before .before .before .element-at .ensures) (c .before .before .before .before .before .before .before .before .before .before .arrive .ensures) in
+    let P = stepping W d b S (let h = st .pre .1 .1 .0 .0 in let n = c .before .before .before .before .before .before .before .before .before .before .before .before .before .before .before .before .before .before .before .before .before .before .if1 .left in omega arith) (c .before .before .before .before .before .before .before .before .before .before .before .before .before .before .before .before .before .before .before .before .element-at .ensures) (c .before .before .before .before .before .before .before .before .before .before .before .before .before .before .before .before .arrive .ensures) in
     ((ap length (c .before .before .before .before .before .before .before .loop .inv .1) ∙ st .pre .1 .1 .0 .1, ranges-fit W), (kept-of W d b S (c .before .before .before .before .before .before .before .loop .inv .1) (c .before .before .before .before .before .before .before .before .save .ensures), (P .safe, (P .ready, (noted-of W d b S P (c .before .before .before .before .before .before .before .loop .inv .1), c .before .before .before .before .before .if2 .taken)))))
 
 -- a try that went on
-walk-onward : (t : ℕ) (c : walk-lts.Then4 (calls t) (walk-at t) walk.Post walk-Inv-loop walk-μ-loop) → Onward (sceneOf (c .before .before .before .before .before .before .before .before .before .before .before .before .before .before .before .before .before .before .before .before .before .before .before .before .before .before .before .before .before .before .args .net .now) (c .before .before .before .before .before .before .before .before .before .before .before .before .before .before .before .before .before .before .before .before .before .before .before .before .before .before .before .before .before .before .args .position) (c .before .before .before .before .before .before .before .before .before .before .before .before .before .before .before .before .before .before .before .before .before .before .before .before .before .before .before .before .before .before .args .marking .now)) (c .before .before .before .before .before .before .before .before .before .before .before .before .before .before .before .before .before .before .before .before .before .before .before .before .before .before .before .before .before .before .args .variables) (c .before .before .before .before .before .before .before .before .before .before .before .before .before .before .before .before .before .before .before .before .before .before .before .before .before .before .before .before .before .before .args .depth) (c .before .before .before .try-at .last .1 .1 .1 .1 .1 .1 .1 .0) (c .before .before .before .before .before .before .before .before .before .before .before .before .before .before .before .before .before .before .before .before .before .before .before .before .before .before .before .before .before .before .args .most) (c .before .before .before .before .before .before .before .before .before .before .before .before .before .before .before .before .before .before .before .before .before .before .before .before .before .before .before .before .before .before .args .budget) (c .before .before .before .before .before .before .before .before .before .before .before .loop .cur) (c .before .before .before .before .before .before .before .before .before .before .before .loop .menu)
+walk-onward : (t : ℕ) (c : walk-lts.Then4 (calls t) (walk-at t) walk.Post walk-Inv-loop walk-μ-loop) → Onward (sceneOf (c .before .before .before .before .before .before .before .before .before .before .before .before .before .before .before .before .before .before .before .before .before .before .before .before .before .before .before .before .before .before .before .before .before .before .before .before .args .net .now) (c .before .before .before .before .before .before .before .before .before .before .before .before .before .before .before .before .before .before .before .before .before .before .before .before .before .before .before .before .before .before .before .before .before .before .before .before .args .position) (c .before .before .before .before .before .before .before .before .before .before .before .before .before .before .before .before .before .before .before .before .before .before .before .before .before .before .before .before .before .before .before .before .before .before .before .before .args .marking .now)) (c .before .before .before .before .before .before .before .before .before .before .before .before .before .before .before .before .before .before .before .before .before .before .before .before .before .before .before .before .before .before .before .before .before .before .before .before .args .variables) (c .before .before .before .before .before .before .before .before .before .before .before .before .before .before .before .before .before .before .before .before .before .before .before .before .before .before .before .before .before .before .before .before .before .before .before .before .args .depth) (c .before .before .before .try-at .last .1 .1 .1 .1 .1 .1 .1 .0) (c .before .before .before .before .before .before .before .before .before .before .before .before .before .before .before .before .before .before .before .before .before .before .before .before .before .before .before .before .before .before .before .before .before .before .before .before .args .most) (c .before .before .before .before .before .before .before .before .before .before .before .before .before .before .before .before .before .before .before .before .before .before .before .before .before .before .before .before .before .before .before .before .before .before .before .before .args .budget) (c .before .before .before .before .before .before .before .before .before .before .before .loop .cur) (c .before .before .before .before .before .before .before .before .before .before .before .loop .menu)
 walk-onward t c =
-    let st = c .before .before .before .before .before .before .before .before .before .before .before .before .before .before .before .before .before .before .before .before .before .before .before .before .before .before .before .before .before .before in
+    let st = c .before .before .before .before .before .before .before .before .before .before .before .before .before .before .before .before .before .before .before .before .before .before .before .before .before .before .before .before .before .before .before .before .before .before .before .before in
     let W = st .pre .1 .0 in
     let d = st .args .depth in
     let b = st .args .slots .now in
     let S = st .pre .1 .1 .1 .0 in
-    let P = stepping W d b S (let h = st .pre .1 .1 .0 .0 in let n = c .before .before .before .before .before .before .before .before .before .before .before .before .before .before .before .before .before .before .before .before .if1 .left in omega arith) (c .before .before .before .before .before .before .before .before .before .before .before .before .before .before .before .before .before .before .element-at .ensures) (c .before .before .before .before .before .before .before .before .before .before .before .before .before .before .arrive .ensures) in
+    let P = stepping W d b S (let h = st .pre .1 .1 .0 .0 in let n = c .before .before .before .before .before .before .before .before .before .before .before .before .before .before .before .before .before .before .before .before .before .before .before .before .before .before .if1 .left in omega arith) (c .before .before .before .before .before .before .before .before .before .before .before .before .before .before .before .before .before .before .before .before .before .before .before .before .element-at .ensures) (c .before .before .before .before .before .before .before .before .before .before .before .before .before .before .before .before .before .before .before .before .arrive .ensures) in
     record {
       sound = P .sound _ (c .before .before .before .before .before .before .before .before .before .before .before .loop .i) (rw (P .count) (c .before .before .before .before .before .before .before .before .before .if2 .taken)) (try-on W d b S P (c .before .before .before .before .before .before .before .before .before .before .before .loop .i) (c .before .before .before .before .before .before .before .before .before .before .before .loop .inv .1) (c .before .before .before .try-at .ensures) (c .if4 .taken));
       long = c .before .before .before .try-at .kept .1 .1 .1 .1 .1 .1 .1 .0 ∙ ap length (c .before .before .before .before .before .before .before .before .before .before .before .loop .inv .1) ∙ st .pre .1 .1 .0 .1;
@@ -138,29 +148,40 @@ walk-onward t c =
     }
 
 walk-add-if5 : (t : ℕ) → walk-lts.Need-add-if5 (calls t) (walk-at t) walk.Post walk-Inv-loop walk-μ-loop
-walk-add-if5 t c = let f = few-elements (c .before .before .before .before .before .before .before .before .before .before .before .before .before .before .before .before .before .before .before .before .before .before .before .before .before .before .before .before .before .before .pre .1 .0) in let h = c .before .before .before .before .before .before .before .before .before .before .before .before .before .before .before .before .before .before .before .before .before .before .before .before .before .before .before .before .before .before .pre .1 .1 .0 .0 in let n = c .before .before .before .before .before .before .before .before .before .before .before .before .before .before .before .before .before .before .before .before .if1 .left in search needs
+walk-add-if5 t c = let f = few-elements (c .before .before .before .before .before .before .before .before .before .before .before .before .before .before .before .before .before .before .before .before .before .before .before .before .before .before .before .before .before .before .before .before .before .before .before .before .pre .1 .0) in let h = c .before .before .before .before .before .before .before .before .before .before .before .before .before .before .before .before .before .before .before .before .before .before .before .before .before .before .before .before .before .before .before .before .before .before .before .before .pre .1 .1 .0 .0 in let n = c .before .before .before .before .before .before .before .before .before .before .before .before .before .before .before .before .before .before .before .before .before .before .before .before .before .before .if1 .left in search needs
+
+walk-array-share-prefix-tested : (t : ℕ) → walk-lts.Need-array-share-prefix-tested (calls t) (walk-at t) walk.Post walk-Inv-loop walk-μ-loop
+walk-array-share-prefix-tested t c = let f = c .before .before .before .before .before .before .before .before .before .before .before .before .before .before .before .before .leave-out .ensures .few in let k = c .before .before .before .before .before .before .before .before .before .before .before .before .before .before .before .before .leave-out .ensures .full in omega arith
+
+walk-slice-aggregate-leaf : (t : ℕ) → walk-lts.Need-slice-aggregate-leaf (calls t) (walk-at t) walk.Post walk-Inv-loop walk-μ-loop
+walk-slice-aggregate-leaf t c = sym (length-take-le (c .before .before .before .before .before .before .before .before .before .before .before .before .before .before .before .before .before .leave-out .result) (c .before .before .before .before .before .before .before .before .before .before .before .before .before .before .before .before .before .leave-out .last .1 .1 .0) (let f = c .before .before .before .before .before .before .before .before .before .before .before .before .before .before .before .before .before .leave-out .ensures .few in let k = c .before .before .before .before .before .before .before .before .before .before .before .before .before .before .before .before .before .leave-out .ensures .full in omega arith))
 
 walk-leaf-requires-2 : (t : ℕ) → walk-lts.Need-leaf-requires-2 (calls t) (walk-at t) walk.Post walk-Inv-loop walk-μ-loop
-walk-leaf-requires-2 t c κs = let O = walk-onward t (c .before .before .before) in leaf-handed (c .before .before .before .before .before .before .before .before .before .before .before .before .before .before .before .before .before .before .before .before .before .before .before .before .before .before .before .before .before .before .before .before .before .pre .1 .0) (c .before .before .before .before .before .before .before .before .before .before .before .before .before .before .before .before .before .before .before .before .before .before .before .before .before .before .before .before .before .before .before .before .before .args .depth + 1) (c .before .before .before .before .before .before .try-at .last .1 .1 .1 .1 .1 .1 .1 .0) (O .sound) (c .before .before .if5 .taken) (O .long) (O .held)
+walk-leaf-requires-2 t c κs = let O = walk-onward t (c .before .before .before .before) in leaf-handed (c .before .before .before .before .before .before .before .before .before .before .before .before .before .before .before .before .before .before .before .before .before .before .before .before .before .before .before .before .before .before .before .before .before .before .before .before .before .before .before .before .pre .1 .0) (c .before .before .before .before .before .before .before .before .before .before .before .before .before .before .before .before .before .before .before .before .before .before .before .before .before .before .before .before .before .before .before .before .before .before .before .before .before .before .before .before .args .depth + 1) (c .before .before .before .before .before .before .before .try-at .last .1 .1 .1 .1 .1 .1 .1 .0) (O .sound) (c .before .before .before .if5 .taken) (O .long) (take (c .before .before .before .before .before .before .before .before .before .before .before .before .before .before .before .before .before .before .before .leave-out .result) (c .before .before .before .before .before .before .before .before .before .before .before .before .before .before .before .before .before .before .before .leave-out .last .1 .1 .0)) (let m = length-take (c .before .before .before .before .before .before .before .before .before .before .before .before .before .before .before .before .before .before .before .leave-out .result) (c .before .before .before .before .before .before .before .before .before .before .before .before .before .before .before .before .before .before .before .leave-out .last .1 .1 .0) in let f = c .before .before .before .before .before .before .before .before .before .before .before .before .before .before .before .before .before .before .before .leave-out .ensures .few in omega arith) (O .held)
 
 walk-add-walk : (t : ℕ) → walk-lts.Need-add-walk (calls t) (walk-at t) walk.Post walk-Inv-loop walk-μ-loop
-walk-add-walk t c = let f = few-elements (c .before .before .before .before .before .before .before .before .before .before .before .before .before .before .before .before .before .before .before .before .before .before .before .before .before .before .before .before .before .before .before .pre .1 .0) in let h = c .before .before .before .before .before .before .before .before .before .before .before .before .before .before .before .before .before .before .before .before .before .before .before .before .before .before .before .before .before .before .before .pre .1 .1 .0 .0 in let n = c .before .before .before .before .before .before .before .before .before .before .before .before .before .before .before .before .before .before .before .before .before .if1 .left in search needs
+walk-add-walk t c = let f = few-elements (c .before .before .before .before .before .before .before .before .before .before .before .before .before .before .before .before .before .before .before .before .before .before .before .before .before .before .before .before .before .before .before .before .before .before .before .before .before .pre .1 .0) in let h = c .before .before .before .before .before .before .before .before .before .before .before .before .before .before .before .before .before .before .before .before .before .before .before .before .before .before .before .before .before .before .before .before .before .before .before .before .before .pre .1 .1 .0 .0 in let n = c .before .before .before .before .before .before .before .before .before .before .before .before .before .before .before .before .before .before .before .before .before .before .before .before .before .before .before .if1 .left in search needs
 
 walk-walk-requires : (t : ℕ) → walk-lts.Need-walk-requires (calls t) (walk-at t) walk.Post walk-Inv-loop walk-μ-loop
 walk-walk-requires t c κs =
-    let st = c .before .before .before .before .before .before .before .before .before .before .before .before .before .before .before .before .before .before .before .before .before .before .before .before .before .before .before .before .before .before .before .before .before in
+    let st = c .before .before .before .before .before .before .before .before .before .before .before .before .before .before .before .before .before .before .before .before .before .before .before .before .before .before .before .before .before .before .before .before .before .before .before .before .before .before .before in
     let h = st .pre .1 .1 .0 .0 in
-    let n = c .before .before .before .before .before .before .before .before .before .before .before .before .before .before .before .before .before .before .before .before .before .before .before .if1 .left in
+    let n = c .before .before .before .before .before .before .before .before .before .before .before .before .before .before .before .before .before .before .before .before .before .before .before .before .before .before .before .before .before .if1 .left in
     let O = walk-onward t (c .before .before .before) in
     (let m = st .pre .0 in omega arith, (st .pre .1 .0, ((omega arith, O .long), (O .sound, (O .held, O .unspent)))))
 
 -- what came of it
-walk-went : (t : ℕ) (c : walk-lts.Joined5 (calls t) (walk-at t) walk.Post walk-Inv-loop walk-μ-loop) → Went (c .before .before .before .before .before .before .before .before .before .before .before .before .before .before .before .before .before .before .before .before .before .before .before .before .before .before .before .before .before .before .before .args .variables) (c .before .before .before .before .before .before .before .before .before .before .before .before .before .before .before .before .before .before .before .before .before .before .before .before .before .before .before .before .before .before .before .args .most) (c .before .before .before .before .before .before .before .before .before .before .before .before .before .before .before .before .before .before .before .before .before .before .before .before .before .before .before .before .before .before .before .args .budget) (c .before .before .before .before .before .before .before .before .before .before .before .before .loop .cur) (c .before .before .before .before .before .before .before .before .before .before .before .before .loop .menu) (costFrom (sceneOf (c .before .before .before .before .before .before .before .before .before .before .before .before .before .before .before .before .before .before .before .before .before .before .before .before .before .before .before .before .before .before .before .args .net .now) (c .before .before .before .before .before .before .before .before .before .before .before .before .before .before .before .before .before .before .before .before .before .before .before .before .before .before .before .before .before .before .before .args .position) (c .before .before .before .before .before .before .before .before .before .before .before .before .before .before .before .before .before .before .before .before .before .before .before .before .before .before .before .before .before .before .before .args .marking .now)) (drop (c .before .before .before .before .before .before .before .before .before .before .before .before .before .before .before .before .before .before .before .before .before .before .before .before .before .before .before .before .before .before .before .args .depth + 1) (sceneOf (c .before .before .before .before .before .before .before .before .before .before .before .before .before .before .before .before .before .before .before .before .before .before .before .before .before .before .before .before .before .before .before .args .net .now) (c .before .before .before .before .before .before .before .before .before .before .before .before .before .before .before .before .before .before .before .before .before .before .before .before .before .before .before .before .before .before .before .args .position) (c .before .before .before .before .before .before .before .before .before .before .before .before .before .before .before .before .before .before .before .before .before .before .before .before .before .before .before .before .before .before .before .args .marking .now) .transition .plan)) (partialOf (c .before .before .before .before .before .before .before .before .before .before .before .before .before .before .before .before .before .before .before .before .before .before .before .before .before .before .before .before .before .before .before .args .variables) (c .before .before .before .before .try-at .last .1 .1 .1 .1 .1 .1 .1 .0))) (rowsFrom (sceneOf (c .before .before .before .before .before .before .before .before .before .before .before .before .before .before .before .before .before .before .before .before .before .before .before .before .before .before .before .before .before .before .before .args .net .now) (c .before .before .before .before .before .before .before .before .before .before .before .before .before .before .before .before .before .before .before .before .before .before .before .before .before .before .before .before .before .before .before .args .position) (c .before .before .before .before .before .before .before .before .before .before .before .before .before .before .before .before .before .before .before .before .before .before .before .before .before .before .before .before .before .before .before .args .marking .now)) (drop (c .before .before .before .before .before .before .before .before .before .before .before .before .before .before .before .before .before .before .before .before .before .before .before .before .before .before .before .before .before .before .before .args .depth + 1) (sceneOf (c .before .before .before .before .before .before .before .before .before .before .before .before .before .before .before .before .before .before .before .before .before .before .before .before .before .before .before .before .before .before .before .args .net .now) (c .before .before .before .before .before .before .before .before .before .before .before .before .before .before .before .before .before .before .before .before .before .before .before .before .before .before .before .before .before .before .before .args .position) (c .before .before .before .before .before .before .before .before .before .before .before .before .before .before .before .before .before .before .before .before .before .before .before .before .before .before .before .before .before .before .before .args .marking .now) .transition .plan)) (partialOf (c .before .before .before .before .before .before .before .before .before .before .before .before .before .before .before .before .before .before .before .before .before .before .before .before .before .before .before .before .before .before .before .args .variables) (c .before .before .before .before .try-at .last .1 .1 .1 .1 .1 .1 .1 .0))) (length (c .before .before .before .before .before .before .before .before .before .before .before .before .before .before .before .before .before .before .before .before .before .before .before .before .before .before .before .before .before .before .before .args .slots .now)) (c .if5 .cur) (c .if5 .menu) (c .if5 .slots)
+walk-went : (t : ℕ) (c : walk-lts.Joined5 (calls t) (walk-at t) walk.Post walk-Inv-loop walk-μ-loop) → Went (c .before .before .before .before .before .before .before .before .before .before .before .before .before .before .before .before .before .before .before .before .before .before .before .before .before .before .before .before .before .before .before .before .before .before .before .before .before .args .variables) (c .before .before .before .before .before .before .before .before .before .before .before .before .before .before .before .before .before .before .before .before .before .before .before .before .before .before .before .before .before .before .before .before .before .before .before .before .before .args .most) (c .before .before .before .before .before .before .before .before .before .before .before .before .before .before .before .before .before .before .before .before .before .before .before .before .before .before .before .before .before .before .before .before .before .before .before .before .before .args .budget) (c .before .before .before .before .before .before .before .before .before .before .before .before .loop .cur) (c .before .before .before .before .before .before .before .before .before .before .before .before .loop .menu) (costFrom (sceneOf (c .before .before .before .before .before .before .before .before .before .before .before .before .before .before .before .before .before .before .before .before .before .before .before .before .before .before .before .before .before .before .before .before .before .before .before .before .before .args .net .now) (c .before .before .before .before .before .before .before .before .before .before .before .before .before .before .before .before .before .before .before .before .before .before .before .before .before .before .before .before .before .before .before .before .before .before .before .before .before .args .position) (c .before .before .before .before .before .before .before .before .before .before .before .before .before .before .before .before .before .before .before .before .before .before .before .before .before .before .before .before .before .before .before .before .before .before .before .before .before .args .marking .now)) (drop (c .before .before .before .before .before .before .before .before .before .before .before .before .before .before .before .before .before .before .before .before .before .before .before .before .before .before .before .before .before .before .before .before .before .before .before .before .before .args .depth + 1) (sceneOf (c .before .before .before .before .before .before .before .before .before .before .before .before .before .before .before .before .before .before .before .before .before .before .before .before .before .before .before .before .before .before .before .before .before .before .before .before .before .args .net .now) (c .before .before .before .before .before .before .before .before .before .before .before .before .before .before .before .before .before .before .before .before .before .before .before .before .before .before .before .before .before .before .before .before .before .before .before .before .before .args .position) (c .before .before .before .before .before .before .before .before .before .before .before .before .before .before .before .before .before .before .before .before .before .before .before .before .before .before .before .before .before .before .before .before .before .before .before .before .before .args .marking .now) .transition .plan)) (partialOf (c .before .before .before .before .before .before .before .before .before .before .before .before .before .before .before .before .before .before .before .before .before .before .before .before .before .before .before .before .before .before .before .before .before .before .before .before .before .args .variables) (c .before .before .before .before .try-at .last .1 .1 .1 .1 .1 .1 .1 .0))) (rowsFrom (sceneOf (c .before .before .before .before .before .before .before .before .before .before .before .before .before .before .before .before .before .before .before .before .before .before .before .before .before .before .before .before .before .before .before .before .before .before .before .before .before .args .net .now) (c .before .before .before .before .before .before .before .before .before .before .before .before .before .before .before .before .before .before .before .before .before .before .before .before .before .before .before .before .before .before .before .before .before .before .before .before .before .args .position) (c .before .before .before .before .before .before .before .before .before .before .before .before .before .before .before .before .before .before .before .before .before .before .before .before .before .before .before .before .before .before .before .before .before .before .before .before .before .args .marking .now)) (drop (c .before .before .before .before .before .before .before .before .before .before .before .before .before .before .before .before .before .before .before .before .before .before .before .before .before .before .before .before .before .before .before .before .before .before .before .before .before .args .depth + 1) (sceneOf (c .before .before .before .before .before .before .before .before .before .before .before .before .before .before .before .before .before .before .before .before .before .before .before .before .before .before .before .before .before .before .before .before .before .before .before .before .before .args .net .now) (c .before .before .before .before .before .before .before .before .before .before .before .before .before .before .before .before .before .before .before .before .before .before .before .before .before .before .before .before .before .before .before .before .before .before .before .before .before .args .position) (c .before .before .before .before .before .before .before .before .before .before .before .before .before .before .before .before .before .before .before .before .before .before .before .before .before .before .before .before .before .before .before .before .before .before .before .before .before .args .marking .now) .transition .plan)) (partialOf (c .before .before .before .before .before .before .before .before .before .before .before .before .before .before .before .before .before .before .before .before .before .before .before .before .before .before .before .before .before .before .before .before .before .before .before .before .before .args .variables) (c .before .before .before .before .try-at .last .1 .1 .1 .1 .1 .1 .1 .0))) (length (c .before .before .before .before .before .before .before .before .before .before .before .before .before .before .before .before .before .before .before .before .before .before .before .before .before .before .before .before .before .before .before .before .before .before .before .before .before .args .slots .now)) (c .if5 .cur) (c .if5 .menu) (c .if5 .slots)
 walk-went t c =
-    let st = c .before .before .before .before .before .before .before .before .before .before .before .before .before .before .before .before .before .before .before .before .before .before .before .before .before .before .before .before .before .before .before in
+    let st = c .before .before .before .before .before .before .before .before .before .before .before .before .before .before .before .before .before .before .before .before .before .before .before .before .before .before .before .before .before .before .before .before .before .before .before .before .before in
+    let W = st .pre .1 .0 in
+    let d = st .args .depth in
+    let b = st .args .slots .now in
+    let S = st .pre .1 .1 .1 .0 in
+    let P = stepping W d b S (let h = st .pre .1 .1 .0 .0 in let n = c .before .before .before .before .before .before .before .before .before .before .before .before .before .before .before .before .before .before .before .before .before .before .before .before .before .before .before .if1 .left in omega arith) (c .before .before .before .before .before .before .before .before .before .before .before .before .before .before .before .before .before .before .before .before .before .before .before .before .before .element-at .ensures) (c .before .before .before .before .before .before .before .before .before .before .before .before .before .before .before .before .before .before .before .before .before .arrive .ensures) in
     let O = walk-onward t (c .before) in
     let n : length (c .before .before .before .before .try-at .last .1 .1 .1 .1 .1 .1 .1 .0) ≡ length (st .args .slots .now) = O .long ∙ sym (st .pre .1 .1 .0 .1) in
-    ⊎-elim (λ l. went (walked-leaf (st .pre .1 .0) (st .args .depth + 1) (c .before .before .before .before .try-at .last .1 .1 .1 .1 .1 .1 .1 .0) (O .sound) (l .0 .taken) (O .long) (O .unspent) (l .3 .ensures)) (l .3 .kept .1 .1 .1 .1 .1 .1 .1 .0) n (l .6) (l .7) (l .8)) (λ r. went (r .3 .ensures .0) (r .3 .kept .1 .1 .1 .1 .1 .1 .1 .1 .1 .1 .1 .0) (r .3 .kept .1 .1 .1 .1 .1 .1 .1 .1 .1 .1 .0 ∙ n) (r .8) (r .9) (r .10)) (c .if5 .came)
+    ⊎-elim (λ l. went (spared-leaf W (st .args .depth + 1) (c .before .before .before .before .try-at .last .1 .1 .1 .1 .1 .1 .1 .0) (O .sound) (l .0 .taken) (O .long) (c .before .before .before .before .before .before .before .before .before .before .before .before .before .before .before .before .before .before .before .before .before .arrive .ensures) (st .pre .1 .1 .0 .1) (c .before .before .before .before .before .before .before .before .before .before .before .before .before .before .before .before .before .before .spare-of .ensures) (c .before .before .before .before .before .before .before .before .before .before .before .before .before .before .before .before .leave-out .ensures .same) (c .before .before .before .before .before .before .before .before .before .before .before .before .loop .i) (rw (P .count) (c .before .before .before .before .before .before .before .before .before .before .if2 .taken)) (try-on W d b S P (c .before .before .before .before .before .before .before .before .before .before .before .before .loop .i) (c .before .before .before .before .before .before .before .before .before .before .before .before .loop .inv .1) (c .before .before .before .before .try-at .ensures) (c .before .if4 .taken)) (O .unspent) (l .4 .ensures)) (l .4 .kept .1 .1 .1 .1 .1 .1 .1 .0) n (l .7) (l .8) (l .9)) (λ r. went (r .3 .ensures .0) (r .3 .kept .1 .1 .1 .1 .1 .1 .1 .1 .1 .1 .1 .0) (r .3 .kept .1 .1 .1 .1 .1 .1 .1 .1 .1 .1 .0 ∙ n) (r .8) (r .9) (r .10)) (c .if5 .came)
 
 walk-restore-requires : (t : ℕ) → walk-lts.Need-restore-requires (calls t) (walk-at t) walk.Post walk-Inv-loop walk-μ-loop
 walk-restore-requires t c κs =
@@ -176,23 +197,23 @@ walk-same-length-6 t c = walk-went t (c .before .before .before .before .before 
 
 walk-returns-3 : (t : ℕ) → walk-lts.Need-returns-3 (calls t) (walk-at t) walk.Post walk-Inv-loop walk-μ-loop
 walk-returns-3 t c =
-    let st = c .before .before .before .before .before .before .before .before .before .before .before .before .before .before .before .before .before .before .before .before .before .before .before .before .before .before .before .before .before .before .before .before .before .before .before .before .before in
+    let st = c .before .before .before .before .before .before .before .before .before .before .before .before .before .before .before .before .before .before .before .before .before .before .before .before .before .before .before .before .before .before .before .before .before .before .before .before .before .before .before .before .before .before .before in
     let W = st .pre .1 .0 in
     let d = st .args .depth in
     let b = st .args .slots .now in
     let S = st .pre .1 .1 .1 .0 in
-    let P = stepping W d b S (let h = st .pre .1 .1 .0 .0 in let n = c .before .before .before .before .before .before .before .before .before .before .before .before .before .before .before .before .before .before .before .before .before .before .before .before .before .before .before .if1 .left in omega arith) (c .before .before .before .before .before .before .before .before .before .before .before .before .before .before .before .before .before .before .before .before .before .before .before .before .before .element-at .ensures) (c .before .before .before .before .before .before .before .before .before .before .before .before .before .before .before .before .before .before .before .before .before .arrive .ensures) in
+    let P = stepping W d b S (let h = st .pre .1 .1 .0 .0 in let n = c .before .before .before .before .before .before .before .before .before .before .before .before .before .before .before .before .before .before .before .before .before .before .before .before .before .before .before .before .before .before .before .before .before .if1 .left in omega arith) (c .before .before .before .before .before .before .before .before .before .before .before .before .before .before .before .before .before .before .before .before .before .before .before .before .before .before .before .before .before .before .before .element-at .ensures) (c .before .before .before .before .before .before .before .before .before .before .before .before .before .before .before .before .before .before .before .before .before .before .before .before .before .before .before .arrive .ensures) in
     let G = walk-went t (c .before .before .before .before .before .before) in
     (ended-same (P .cost) (P .rows) (ended-stop (c .before .before .before .before .before .before .before .before .before .before .before .before .before .before .before .before .before .before .loop .inv .0) (rw (P .count) (c .before .before .before .before .before .before .before .before .before .before .before .before .before .before .before .before .if2 .taken)) _ (try-on W d b S P (c .before .before .before .before .before .before .before .before .before .before .before .before .before .before .before .before .before .before .loop .i) (c .before .before .before .before .before .before .before .before .before .before .before .before .before .before .before .before .before .before .loop .inv .1) (c .before .before .before .before .before .before .before .before .before .before .try-at .ensures) (c .before .before .before .before .before .before .before .if4 .taken)) (G .ended) (c .if6 .taken)), back W d b S (length (c .before .before .before .before .before .before .if5 .slots)) (c .before .before .before .before .before .before .before .before .before .before .before .before .before .before .before .before .before .before .before .save .ensures) (G .slots) (c .before .before .before .restore .ensures))
 
 walk-loop-again : (t : ℕ) → walk-lts.Need-loop-again (calls t) (walk-at t) walk.Post walk-Inv-loop walk-μ-loop
 walk-loop-again t c =
-    let st = c .before .before .before .before .before .before .before .before .before .before .before .before .before .before .before .before .before .before .before .before .before .before .before .before .before .before .before .before .before .before in
+    let st = c .before .before .before .before .before .before .before .before .before .before .before .before .before .before .before .before .before .before .before .before .before .before .before .before .before .before .before .before .before .before .before .before .before .before .before .before in
     let W = st .pre .1 .0 in
     let d = st .args .depth in
     let b = st .args .slots .now in
     let S = st .pre .1 .1 .1 .0 in
-    let P = stepping W d b S (let h = st .pre .1 .1 .0 .0 in let n = c .before .before .before .before .before .before .before .before .before .before .before .before .before .before .before .before .before .before .before .before .if1 .left in omega arith) (c .before .before .before .before .before .before .before .before .before .before .before .before .before .before .before .before .before .before .element-at .ensures) (c .before .before .before .before .before .before .before .before .before .before .before .before .before .before .arrive .ensures) in
+    let P = stepping W d b S (let h = st .pre .1 .1 .0 .0 in let n = c .before .before .before .before .before .before .before .before .before .before .before .before .before .before .before .before .before .before .before .before .before .before .before .before .before .before .if1 .left in omega arith) (c .before .before .before .before .before .before .before .before .before .before .before .before .before .before .before .before .before .before .before .before .before .before .before .before .element-at .ensures) (c .before .before .before .before .before .before .before .before .before .before .before .before .before .before .before .before .before .before .before .before .arrive .ensures) in
     ⊎-elim (λ l. let G = walk-went t (record { before = record { before = c .before; if4 = l .0 }; if5 = l .1 }) in (trying-same (l .10) (l .9) (trying-turn (c .before .before .before .before .before .before .before .before .before .before .before .loop .inv .0) (rw (P .count) (c .before .before .before .before .before .before .before .before .before .if2 .taken)) _ (try-on W d b S P (c .before .before .before .before .before .before .before .before .before .before .before .loop .i) (c .before .before .before .before .before .before .before .before .before .before .before .loop .inv .1) (c .before .before .before .try-at .ensures) (l .0 .taken)) (G .ended) (G .as-long) (l .7 .left)), l .8 ∙ back W d b S (length (l .1 .slots)) (c .before .before .before .before .before .before .before .before .before .before .before .before .save .ensures) (G .slots) (l .4 .ensures))) (λ r. (trying-same (r .3) (r .2) (trying-skip (c .before .before .before .before .before .before .before .before .before .before .before .loop .inv .0) (rw (P .count) (c .before .before .before .before .before .before .before .before .before .if2 .taken)) (try-off W d b S P (c .before .before .before .before .before .before .before .before .before .before .before .loop .i) (c .before .before .before .before .before .before .before .before .before .before .before .loop .inv .1) (c .before .before .before .try-at .ensures) (r .0 .left)) (let k = c .before .before .before .before .before .before .before .before .if3 .left in omega arith)), r .1 ∙ try-left W d b S P (c .before .before .before .before .before .before .before .before .before .before .before .loop .i) (c .before .before .before .before .before .before .before .before .before .before .before .loop .inv .1) (c .before .before .before .try-at .ensures) (r .0 .left))) (c .if4 .came)
 
 walk-same-length-7 : (t : ℕ) → walk-lts.Need-same-length-7 (calls t) (walk-at t) walk.Post walk-Inv-loop walk-μ-loop
@@ -203,12 +224,12 @@ walk-same-length-8 t c = c .before .before .loop .inv .0 .as-long
 
 walk-returns-4 : (t : ℕ) → walk-lts.Need-returns-4 (calls t) (walk-at t) walk.Post walk-Inv-loop walk-μ-loop
 walk-returns-4 t c =
-    let st = c .before .before .before .before .before .before .before .before .before .before .before .before .before .before .before .before .before .before .before .before .before in
+    let st = c .before .before .before .before .before .before .before .before .before .before .before .before .before .before .before .before .before .before .before .before .before .before .before .before .before .before .before in
     let W = st .pre .1 .0 in
     let d = st .args .depth in
     let b = st .args .slots .now in
     let S = st .pre .1 .1 .1 .0 in
-    let P = stepping W d b S (let h = st .pre .1 .1 .0 .0 in let n = c .before .before .before .before .before .before .before .before .before .before .before .if1 .left in omega arith) (c .before .before .before .before .before .before .before .before .before .element-at .ensures) (c .before .before .before .before .before .arrive .ensures) in
+    let P = stepping W d b S (let h = st .pre .1 .1 .0 .0 in let n = c .before .before .before .before .before .before .before .before .before .before .before .before .before .before .before .before .before .if1 .left in omega arith) (c .before .before .before .before .before .before .before .before .before .before .before .before .before .before .before .element-at .ensures) (c .before .before .before .before .before .before .before .before .before .before .before .arrive .ensures) in
     (ended-same (P .cost) (P .rows) (ended-all (c .before .before .loop .inv .0) (rw (P .count) (c .if2 .left))), c .before .before .loop .inv .1)
 
 pub +walk-spec : {M : Type 1} → statement M
@@ -221,6 +242,8 @@ pub +walk-spec : {M : Type 1} → statement M
     (walk-shared-slice-read-element-at t)
     (walk-element-at-requires t)
     (walk-arrive-requires t)
+    (walk-spare-of-requires t)
+    (walk-leave-out-requires t)
     (walk-save-requires t)
     (walk-loop-holds t)
     (walk-same-length-3 t)
@@ -230,6 +253,8 @@ pub +walk-spec : {M : Type 1} → statement M
     (walk-add-try-at t)
     (walk-try-at-requires t)
     (walk-add-if5 t)
+    (walk-array-share-prefix-tested t)
+    (walk-slice-aggregate-leaf t)
     (walk-leaf-requires-2 t)
     (walk-add-walk t)
     (walk-walk-requires t)

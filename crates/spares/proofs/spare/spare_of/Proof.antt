@@ -5,16 +5,16 @@ use Rattle.spares.proofs.spare.spare_of.Statement.{statement}
 use Rattle.spares.proofs.spare.spare_of.Tie as tie
 
 add-if2 : tie.Need-add-if2
-add-if2 c = let k = within-next ((c .before .before .before .before .before .before .before .pre) .0) ((c .before .if1) .left) in omega arith
+add-if2 c = let k = within-next ((c .before .before .before .before .before .before .before .pre)) ((c .before .if1) .left) in omega arith
 
 mul-if2-2 : tie.Need-mul-if2-2
-mul-if2-2 c = let k = within-next ((c .before .before .before .before .before .before .before .pre) .0) ((c .before .if1) .left) in omega arith
+mul-if2-2 c = let k = within-next ((c .before .before .before .before .before .before .before .pre)) ((c .before .if1) .left) in omega arith
 
 shared-slice-read-if2-2 : tie.Need-shared-slice-read-if2-2
-shared-slice-read-if2-2 c = within-next ((c .before .before .before .before .before .before .before .before .pre) .0) ((c .before .before .if1) .left)
+shared-slice-read-if2-2 c = within-next ((c .before .before .before .before .before .before .before .before .pre)) ((c .before .before .if1) .left)
 
-returns-5 : tie.Need-returns-5
-returns-5 c = spare-found ((c .before .before .before .before .before .before .before .before .before .sort) .given .1) ((c .before .before .before .before .if2) .left) ((c .before .before .before .lone-parts) .ensures) ((c .before .before .if3) .left) ((c .before .alone) .ensures) ((c .if4) .left)
+returns-6 : tie.Need-returns-6
+returns-6 c = spare-found ((c .before .before .before .before .before .before .before .before .before .before .sort) .given .1) ((c .before .before .before .before .before .if2) .left) ((c .before .before .before .lone-parts) .ensures) ((c .before .before .if4) .left) ((c .before .alone) .ensures) ((c .if5) .left)
 
 pub spare-of-spec : {M : Type 1} → statement M
 spare-of-spec =
@@ -28,12 +28,13 @@ spare-of-spec =
     mul-if2-2
     shared-slice-read-if2-2
     (λ c. search sparing)
-    (λ c κs. search sparing)
     (λ c. search sparing)
     (λ c κs. search sparing)
     (λ c. search sparing)
+    (λ c κs. search sparing)
     (λ c. search sparing)
     (λ c. search sparing)
-    returns-5
+    (λ c. search sparing)
+    returns-6
     (λ c. search sparing)
     (λ c. search sparing))

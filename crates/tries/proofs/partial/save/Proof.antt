@@ -15,7 +15,7 @@ abbrev μ-loop : tie.MeasureT-loop
 μ-loop slots saved₀ n₀ saved n = length slots - n
 
 loop-holds : tie.Need-loop-holds Inv-loop μ-loop
-loop-holds c = (omega arith, refl, refl)
+loop-holds c = (omega arith, c .pre .1, refl)
 
 loop-again : tie.Need-loop-again Inv-loop μ-loop
 loop-again c =
@@ -23,14 +23,14 @@ loop-again c =
     let lp = c .before .before .loop in
     let f = lp .inv .1 in
     let k = c .before .loop-test .taken in
-    let l = st .pre in
+    let l = st .pre .0 in
     (omega arith, length-set (lp .saved) (lp .n) (getD (st .args .slots .now) (lp .n) 0) ∙ f, copy-turn (lp .saved) (st .args .slots .now) (lp .n) (lp .inv .2) (omega arith) k)
 
 returns : tie.Need-returns Inv-loop μ-loop
 returns c =
     let st = c .before .before in
     let lp = c .before .loop in
-    record { few = st .pre; full = lp .inv .1; front = copy-kept (lp .saved) (st .args .slots .now) (lp .n) (lp .inv .2) (omega arith) }
+    record { few = st .pre .0; full = lp .inv .1; front = copy-kept (lp .saved) (st .args .slots .now) (lp .n) (lp .inv .2) (omega arith) }
 
 pub save-spec : {M : Type 1} → statement M
 save-spec =
