@@ -9,7 +9,7 @@ ghost use Rattle.word.specs.Fields.{rangeWord};
 ghost use Rattle.colours.specs.Code.{ofDigit};
 
 // Whether the value of a digit is in the range of a RANGE word.
-fn digit_in(range: u32, d: u64) -> bool
+pub fn digit_in(range: u32, d: u64) -> bool
     requires { ⌜ d < 16384 ⌝ }
     ensures { λ r. ⌜ r ≡ within (rangeWord range) (ofDigit d) ⌝ }
 {

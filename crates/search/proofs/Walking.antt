@@ -24,7 +24,10 @@ use Rattle.semantics.proofs.Menu.{binding-full}
 use Rattle.occurrence.specs.Answers.{IsEnabledAt}
 use Rattle.elements.specs.declared.element.Element.{Element as CodeElement}
 use Rattle.elements.specs.Bound.{sorted}
-use Rattle.rows.specs.Rows.{valuesOfWords, IsValue, Listing, listingOf}
+use Rattle.word.specs.Fields.{IsValue}
+use Rattle.net.specs.Standing.{HasConjunct, HasArc}
+use Rattle.net.proofs.Standing.{inputs-stand, conjuncts-stand}
+use Rattle.rows.specs.Rows.{valuesOfWords, Listing, listingOf}
 use Rattle.arrivals.specs.declared.step.Step.{Step}
 use Rattle.tries.specs.Partial.{partialOf, IsTried, IsSaved}
 use Rattle.matches.specs.Known.{Knows}
@@ -60,6 +63,13 @@ module _ {ws ps : List ℕ} {position v : ℕ} {inputs conjuncts elements ms beg
 
       pub leaf-values : Every IsValue b
       leaf-values = subst (Every IsValue) all (slots-values (take v b) (full .0) (full .1) .1)
+
+      -- the conjuncts and the input arcs of the transition stand at their positions
+      pub leaf-conjuncts : Every (HasConjunct ws (length b)) conjuncts
+      leaf-conjuncts = conjuncts-stand ws (s .net .places) position (s .transition) (W .after) (W .there) (length b) (l ∙ W .many) (W .guards)
+
+      pub leaf-inputs : Every (HasArc ws ps (length b)) inputs
+      leaf-inputs = inputs-stand ws (s .net .places) position (s .transition) (W .after) (W .there) (length b) (l ∙ W .many) ps (W .placed) (W .arcs)
 
       pub walked-leaf : {most budget : ℕ} {c : Progress} {m : List ℕ} {r : Progress} {m′ : List ℕ} → Unspent budget c → IsLeaf ws ps conjuncts inputs ms begins most b c m r m′ → Ended v most budget (c .rows) m (c .tries) (listingOf v (c .rows) (c .full) m) (costFrom s (drop d (s .transition .plan)) (partialOf v b)) (rowsFrom s (drop d (s .transition .plan)) (partialOf v b)) r m′
       walked-leaf {most} {budget} {c} {m} {r} {m′} u i =

@@ -18,7 +18,7 @@ use Rattle.search.specs.Search.{costFrom, rowsFrom}
 use Rattle.leaves.specs.Leaf.{Held}
 use Rattle.search.proofs.Trying.{Trying, trying-start, ended-all, ended-spent, trying-skip, trying-same, ended-stop, trying-turn}
 use Rattle.search.proofs.Worlds.{few-variables, few-inputs, few-elements, ranges-fit, next-element}
-use Rattle.search.proofs.Walking.{ended-same, leaf-values, walked-leaf, stepping, try-on, try-off, try-left, back, kept-of, knows-of}
+use Rattle.search.proofs.Walking.{ended-same, leaf-values, leaf-conjuncts, leaf-inputs, walked-leaf, stepping, try-on, try-off, try-left, back, kept-of, knows-of}
 use Rattle.search.proofs.walk.walk.Reads as walk
 use Rattle.search.proofs.walk.walk.Kinds as walk-kinds
 use Rattle.search.proofs.walk.+walk.Lts-walk as walk-lts
@@ -55,7 +55,7 @@ walk-leaf-requires : (t : ℕ) → walk-lts.Need-leaf-requires (calls t) (walk-a
 walk-leaf-requires t c κs =
     let st = c .before .before .before .before .before .before .before .before .before .before .before .before in
     let W = st .pre .1 .0 in
-    (W .fits, (W .beginnings, (few-inputs W, (leaf-values W (st .args .depth) (st .args .slots .now) (st .pre .1 .1 .1 .0) (c .before .before .if1 .taken) (st .pre .1 .1 .0 .1), subst (λ (k : ℕ). Held k (st .args .most) (st .args .s .rows) (st .args .menu .now)) (sym (st .pre .1 .1 .0 .1)) (st .pre .1 .1 .1 .1 .0)))))
+    (W .fits, (W .beginnings, (few-inputs W, (leaf-conjuncts W (st .args .depth) (st .args .slots .now) (st .pre .1 .1 .1 .0) (c .before .before .if1 .taken) (st .pre .1 .1 .0 .1), (leaf-inputs W (st .args .depth) (st .args .slots .now) (st .pre .1 .1 .1 .0) (c .before .before .if1 .taken) (st .pre .1 .1 .0 .1), (leaf-values W (st .args .depth) (st .args .slots .now) (st .pre .1 .1 .1 .0) (c .before .before .if1 .taken) (st .pre .1 .1 .0 .1), subst (λ (k : ℕ). Held k (st .args .most) (st .args .s .rows) (st .args .menu .now)) (sym (st .pre .1 .1 .0 .1)) (st .pre .1 .1 .1 .1 .0)))))))
 
 walk-returns : (t : ℕ) → walk-lts.Need-returns (calls t) (walk-at t) walk.Post walk-Inv-loop walk-μ-loop
 walk-returns t c =
