@@ -10,7 +10,7 @@ use Rattle.semantics.specs.Reading.{Reading, read, refused, then, several}
 use Rattle.semantics.specs.ReadNet.{readExpression}
 use Rattle.evaluation.specs.Evaluate.{lent}
 use Rattle.arcs.specs.Flow.{colourOf, colourAt}
-use Rattle.evaluation.proofs.Answers.{Valued, Unread}
+use Rattle.evaluation.proofs.Answers.{Valued}
 
 -- ── Lists that may be missing ──
 
@@ -50,7 +50,3 @@ module _ {ws bs : List ℕ} {at : ℕ} (k : ℕ) where
       by : (x : Reading (List Expression)) → colourOf (lent bs) (then x (λ rest end. read (v .tree ∷ rest) end)) ≡ none
       by (read es end) = rw (v .same)
       by (refused n q) = refl
-
-  pub colour-unread : Unread ws bs at → colourAt ws bs (suc k) at ≡ none
-  unfolding several
-  colour-unread u = rw (u .reads)

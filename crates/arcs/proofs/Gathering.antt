@@ -15,7 +15,8 @@ use Rattle.semantics.specs.Lists.{Every, every, select}
 use Rattle.semantics.specs.Expression.{given}
 use Rattle.semantics.specs.Enabling.{Flow}
 use Rattle.semantics.proofs.Tests.{or-right}
-use Rattle.semantics.proofs.Members.{every-snoc}
+use Rattle.semantics.proofs.Members.{every-number, every-snoc}
+use Rattle.net.specs.Standing.{HasArc}
 use Rattle.net.proofs.Loops.{take-set}
 use Rattle.arcs.specs.declared.flow.Moved.{Moved}
 use Rattle.arcs.specs.declared.flow.Moved.the-variants.{Tokens, Idle, Outside, Nothing}
@@ -63,6 +64,10 @@ pub record Gathering (ws ps bs ats : List ℕ) (i n : ℕ) (keys amounts : List 
   pub amounts-full : length amounts ≡ 8
   pub fit : Every (KeyFits ws ps) (take n keys)
   pub same : front (keyFlows ws ps (take n keys) (take n amounts)) (gatheredBy ws ps (flowsAt ws ps bs (drop i ats))) ≡ gatheredBy ws ps (flowsAt ws ps bs ats)
+
+-- an arc stands at each position
+pub arc-there : (ws ps ats : List ℕ) (v i : ℕ) → Every (HasArc ws ps v) ats → i < length ats → HasArc ws ps v (getD ats i 0)
+arc-there ws ps ats v i e h = every-number (HasArc ws ps v) ats i 0 e h
 
 pub gathering-start : (ws ps bs ats keys amounts : List ℕ) → length keys ≡ 8 → length amounts ≡ 8 → Gathering ws ps bs ats 0 0 keys amounts
 unfolding keyFlows

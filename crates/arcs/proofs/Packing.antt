@@ -1,51 +1,99 @@
--- The rules of packing the components of an arc into a code: the values so far are those of the first expressions, each is held against its
+-- The rules of packing the components of an arc into a code: a constant and a VALUE word are a digit each, any other component by its value. The values so far are those of the first expressions, each is held against its
 -- range, and as long as all are in range the code is theirs.
 use mathlib.Core.Path.{_≡_, refl, sym, ap, _∙_, subst}
 use Prim.Native.Nat.{ℕ, zero, suc, _+_, _-_, _*_, _%_, _≤_, _<_, _^_}
-use mathlib.Core.Bool.{Bool, true, false, not, _&&_, and-true, and-assoc}
+use mathlib.Core.Bool.{Bool, true, false, not, _&&_, and-true, and-false, and-assoc}
 use mathlib.Core.List.{List, [], _∷_, _++_, append-nil}
 use mathlib.Core.Option.{Option, none, some}
 use native.Mathlib.Nat.{pow-suc}
 use native.Mathlib.Numerals.{add-one}
 use native.Mathlib.Omega.{arith}
+use borrow.Author.Needs.{needs}
 use borrow.Author.Tests.{not-true, not-false}
-use lib.IntN.{ℤ}
+use lib.IntN.{ℤ, pos, negsuc}
 use lib.ListN.{length, getD, length-append}
-use Rattle.semantics.specs.Word.{signed, within, valueWord}
+use Rattle.semantics.specs.Lists.{Every}
+use Rattle.semantics.specs.Word.{kind, payload, signed, within, valueWord}
 use Rattle.semantics.specs.Expression.{valuesOf}
 use Rattle.semantics.specs.Reading.{several}
+use Rattle.semantics.specs.ReadNet.{readExpression}
 use Rattle.semantics.specs.Order.{inRanges}
 use Rattle.semantics.proofs.Tests.{false-true, and-left}
-use Rattle.word.specs.Fields.{rangeWord}
-use Rattle.word.proofs.Words.{range-small}
+use Rattle.semantics.proofs.Members.{every-number}
+use Rattle.word.specs.Fields.{ends, rangeWord, IsValue}
+use Rattle.expression.specs.Standing.{HasExpression, HasSeveral}
+use Rattle.evaluation.specs.declared.evaluate.Evaluated.{Evaluated}
+use Rattle.evaluation.specs.declared.evaluate.Evaluated.the-variants.{Value, NoValue}
+use Rattle.evaluation.specs.Evaluate.{lent, evaluated, evaluatedFrom}
+use Rattle.evaluation.proofs.Single.{begins-in-words, begin-fits, variable-there, constant-at, variable-at}
 use Rattle.net.specs.Places.{rangesFrom}
 use Rattle.colours.specs.Code.{ofDigit, coloured, IsCode}
+use Rattle.net.proofs.Standing.{first-of, others-of}
+use Rattle.colours.proofs.Ranging.{range-past, fourteen-bits}
 use Rattle.colours.proofs.Codes.{code-start, code-behind, code-room, code-below, value-back}
+use Rattle.arcs.specs.declared.flow.Component.{Component}
+use Rattle.arcs.specs.declared.flow.Component.the-variants.{Digit, Outside as Component-outside, Nothing as Component-none}
 use Rattle.arcs.specs.declared.flow.Coded.{Coded}
 use Rattle.arcs.specs.declared.flow.Packed.{Packed}
 use Rattle.arcs.specs.declared.flow.Packed.the-variants.{Code, Outside, Nothing}
 use Rattle.arcs.specs.Flow.{colourAt}
-use Rattle.arcs.specs.Keys.{IsPut, Packs, IsPacked, Below}
-use Rattle.evaluation.proofs.Answers.{Valued, Unread}
-use Rattle.arcs.proofs.Colours.{front, front-nil, front-front, colour-value, colour-none, colour-unread}
+use Rattle.arcs.specs.Keys.{Componented, IsComponent, IsPut, Packs, IsPacked, Below}
+use Rattle.evaluation.proofs.Answers.{Valued, known-valued, value-known}
+use Rattle.arcs.proofs.Colours.{front, front-nil, front-front, colour-value, colour-none}
 
 -- ── One component ──
 
-module _ {c : Coded} (range : ℕ) (z : ℤ) where
-  pub put-kept : not (c .inside) ≡ true → IsPut c range z c
+module _ {ws bs : List ℕ} {at : ℕ} (h : HasExpression ws (length bs) at) {k : ℕ} (e : k ≡ kind (getD ws at 0)) where
+  pub constant-digit : {d : ℕ} → k ≡ 7 → ofDigit d ≡ signed (getD ws at 0 % 16384) → d < 16384 → IsComponent ws bs at (Digit d (at + 1))
+  constant-digit i f l = record { told = (sym (constant-at ws bs at h e i f), l) }
+
+  pub variable-digit : {u d : ℕ} → Every IsValue bs → u ≡ payload (getD ws at 0) → k ≡ 8 → ofDigit d ≡ signed (getD bs u 0 % 16384) → d < 16384 → IsComponent ws bs at (Digit d (at + 1))
+  variable-digit {u} v g i f l =
+      let w = value-known (getD bs u 0) (every-number IsValue bs u 0 v (variable-there h e g i)) in
+      record { told = (sym (variable-at ws bs at h e g i (ap some f ∙ sym w) refl refl), l) }
+
+module _ (ws bs : List ℕ) (at : ℕ) {r : Evaluated} (h : evaluated r ≡ evaluatedFrom (lent bs) (readExpression ws (length bs) at)) where
+  pub computed-none : {p : ℕ} → r ≡ NoValue p → IsComponent ws bs at Component-none
+  computed-none {p} d = record { told = (p, sym (rw d at h)) }
+
+  module _ {z z′ : ℤ} {p : ℕ} {x : Bool} (d : r ≡ Value z p) (e : x ≡ within (ends (negsuc 8191) (pos 8191)) z′) (i : z′ ≡ z) where
+    pub computed-outside : not x ≡ true → IsComponent ws bs at (Component-outside p)
+    computed-outside f = record { told = (z, sym (rw d at h), λ range. sym (range-past range z (rw i at e) f)) }
+
+    pub computed-digit : {w k : ℕ} → not x ≡ false → w ≡ valueWord z′ → ofDigit k ≡ signed (w % 16384) → k < 16384 → IsComponent ws bs at (Digit k p)
+    computed-digit {k = k} f g j l =
+        let v : ofDigit k ≡ z = j ∙ ap (λ (u : ℕ). signed (u % 16384)) (g ∙ ap valueWord i) ∙ value-back z (fourteen-bits 0 z (rw i at e) f) in
+        record { told = (rw v (sym (rw d at h)), l) }
+
+-- what a component that was told is
+module _ {ws bs : List ℕ} {at : ℕ} {r u : Component} (x : IsComponent ws bs at r) (e : r ≡ u) where
+  component-is : Componented (evaluatedFrom (lent bs) (readExpression ws (length bs) at)) u
+  component-is = rw e at (x .told)
+
+pub digit-low : {ws bs : List ℕ} {at d p : ℕ} {r : Component} → IsComponent ws bs at r → r ≡ Digit d p → d < 16384
+digit-low x e = component-is x e .1
+
+pub ruleset components = (needs, begins-in-words, begin-fits, variable-there, constant-digit, variable-digit, computed-none, computed-outside, computed-digit)
+
+-- ── Held against its range ──
+
+pub put-past : (c : Coded) (range : ℕ) {z : ℤ} → within (rangeWord range) z ≡ false → IsPut c range z (record { inside = false; code = 0 })
+put-past c range e = record { inside = rw e (sym (and-false (c .inside))); coded = λ u. false-true u; outside = λ u. omega arith }
+
+module _ {c : Coded} (range d : ℕ) where
+  pub put-kept : not (c .inside) ≡ true → IsPut c range (ofDigit d) c
   put-kept e =
       let f = not-true (c .inside) e in
       record { inside = rw f; coded = λ t. false-true (sym f ∙ t); outside = λ t. omega arith }
 
-  module _ (e : not (c .inside) ≡ false) {t : Bool} (x : t ≡ within (rangeWord range) z) where
-    pub put-outside : not t ≡ true → IsPut c range z (record { inside = false; code = 0 })
-    put-outside d = let f = not-false (c .inside) e in record { inside = rw f (sym (not-true t d) ∙ x); coded = λ u. false-true u; outside = λ u. omega arith }
+  module _ (e : not (c .inside) ≡ false) {t : Bool} (x : t ≡ within (rangeWord range) (ofDigit d)) where
+    pub put-outside : not t ≡ true → IsPut c range (ofDigit d) (record { inside = false; code = 0 })
+    put-outside i = put-past c range (sym x ∙ not-true t i)
 
-    pub put-behind : not t ≡ false → {d : ℕ} → ofDigit d ≡ signed (valueWord z % 16384) → d < 16384 → IsPut c range z (record { inside = true; code = c .code * 16384 + d })
-    put-behind n {d} v l =
+    pub put-behind : not t ≡ false → d < 16384 → IsPut c range (ofDigit d) (record { inside = true; code = c .code * 16384 + d })
+    put-behind n l =
         let f = not-false (c .inside) e in
-        let w = not-false t n in
-        record { inside = rw f (sym w ∙ x); coded = λ u. record { digit = d; low = l; value = v ∙ value-back z (range-small range z (sym x ∙ w)); same = refl }; outside = λ u. false-true (sym u) }
+        record { inside = rw f (sym (not-false t n) ∙ x); coded = λ u. record { digit = d; low = l; value = refl; same = refl }; outside = λ u. false-true (sym u) }
 
 -- ── The loop ──
 
@@ -67,12 +115,13 @@ pub record Packing (ws bs : List ℕ) (ranges n at i next : ℕ) (c : Coded) : T
   pub ranged : c .inside ≡ inRanges (rangesFrom ws i ranges) values
   pub coded : c .inside ≡ true → IsCode i values (c .code)
   pub small : c .code < 16384 ^ i
+  pub stand : HasSeveral ws (length bs) (n - i) next
 
-pub packing-start : (ws bs : List ℕ) (ranges n at : ℕ) → Packing ws bs ranges n at 0 at (record { inside = true; code = 0 })
+pub packing-start : (ws bs : List ℕ) (ranges n at : ℕ) → HasSeveral ws (length bs) n at → Packing ws bs ranges n at 0 at (record { inside = true; code = 0 })
 unfolding inRanges rangesFrom
-packing-start ws bs ranges n at =
+packing-start ws bs ranges n at h =
     let e : n - 0 ≡ n = omega arith in
-    record { values = []; inside = omega arith; many = refl; same = ap (λ (k : ℕ). front [] (colourAt ws bs k at)) e ∙ front-nil (colourAt ws bs n at); ranged = refl; coded = λ t. code-start; small = omega arith }
+    record { values = []; inside = omega arith; many = refl; same = ap (λ (k : ℕ). front [] (colourAt ws bs k at)) e ∙ front-nil (colourAt ws bs n at); ranged = refl; coded = λ t. code-start; small = omega arith; stand = rw e h }
 
 module _ {ws bs : List ℕ} {ranges n at i next : ℕ} {c : Coded} (a : Packing ws bs ranges n at i next c) where
   module _ (h : n ≤ i) where
@@ -101,16 +150,16 @@ module _ {ws bs : List ℕ} {ranges n at i next : ℕ} {c : Coded} (a : Packing 
         let d : n - i ≡ suc (n - (i + 1)) = omega arith in
         sym (ap (λ (k : ℕ). front (a .values) (colourAt ws bs k next)) d ∙ ap (front (a .values)) e) ∙ a .same
 
-    pub packing-none : {p : ℕ} → Valued ws bs next none p → IsPacked ws bs ranges n at Nothing
-    packing-none v = record { packs = sym (ahead none (colour-none (n - (i + 1)) v)) }
+    several-stand : HasSeveral ws (length bs) (suc (n - (i + 1))) next
+    several-stand = let d : n - i ≡ suc (n - (i + 1)) = omega arith in rw d at (a .stand)
 
-    pub packing-unread : Unread ws bs next → IsPacked ws bs ranges n at Nothing
-    packing-unread u = record { packs = sym (ahead none (colour-unread (n - (i + 1)) u)) }
+    pub packing-first : HasExpression ws (length bs) next
+    packing-first = first-of several-stand
 
     pub packing-room : n ≤ 4 → c .code < 2 ^ 42
     packing-room l = code-room i (c .code) (omega arith) (a .small)
 
-    pub packing-turn : {z : ℤ} {p range : ℕ} {r : Coded} → Valued ws bs next (some z) p → range ≡ getD ws (ranges + i) 0 → IsPut c range z r → Packing ws bs ranges n at (i + 1) p r
+    packing-turn : {z : ℤ} {p range : ℕ} {r : Coded} → Valued ws bs next (some z) p → range ≡ getD ws (ranges + i) 0 → IsPut c range z r → Packing ws bs ranges n at (i + 1) p r
     packing-turn {z} {p} {range} {r} v e x =
         record {
           values = a .values ++ (z ∷ []);
@@ -120,6 +169,7 @@ module _ {ws bs : List ℕ} {ranges n at i next : ℕ} {c : Coded} (a : Packing 
           ranged = x .inside ∙ rw (a .ranged, e, add-one i) (sym (ranges-behind ws i ranges (a .values) z (a .many)));
           coded = λ t. rw (add-one i) (code t);
           small = rw (add-one i) (low (r .inside) refl);
+          stand = others-of several-stand (v .reads);
         }
       where
         code : r .inside ≡ true → IsCode (suc i) (a .values ++ (z ∷ [])) (r .code)
@@ -134,6 +184,20 @@ module _ {ws bs : List ℕ} {ranges n at i next : ℕ} {c : Coded} (a : Packing 
             let u = x .outside t in
             let s = a .small in
             omega (arith, pow-suc 16384 i)
+
+module _ {ws bs : List ℕ} {ranges n at i next : ℕ} {c : Coded} (a : Packing ws bs ranges n at i next c) (h : i < n) {t : Component} (x : IsComponent ws bs next t) where
+  pub packing-digit : {d p range : ℕ} {r : Coded} → t ≡ Digit d p → range ≡ getD ws (ranges + i) 0 → IsPut c range (ofDigit d) r → Packing ws bs ranges n at (i + 1) p r
+  packing-digit e g y = packing-turn a h (known-valued ws bs next (component-is x e .0)) g y
+
+  pub packing-past : {p : ℕ} → t ≡ Component-outside p → Packing ws bs ranges n at (i + 1) p (record { inside = false; code = 0 })
+  packing-past e =
+      let k = component-is x e in
+      packing-turn a h (known-valued ws bs next (k .1)) refl (put-past c (getD ws (ranges + i) 0) (k .2 (getD ws (ranges + i) 0)))
+
+  pub packing-nothing : t ≡ Component-none → IsPacked ws bs ranges n at Nothing
+  packing-nothing e = record { packs = sym (ahead a h none (colour-none (n - (i + 1)) (known-valued ws bs next (component-is x e .1)))) }
+
+pub ruleset packing = (needs, packing-start, packing-first, packing-room, digit-low, packing-digit, packing-past, packing-nothing, packing-code, packing-outside)
 
 -- a code of at most four components leaves room for a place above it
 pub packed-below : {ws bs : List ℕ} {ranges n at : ℕ} {r : Packed} → n ≤ 4 → IsPacked ws bs ranges n at r → Below r

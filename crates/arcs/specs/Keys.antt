@@ -12,13 +12,17 @@ use Rattle.semantics.specs.Lists.{Every, every, select}
 use Rattle.semantics.specs.Word.{within}
 use Rattle.semantics.specs.Expression.{given}
 use Rattle.semantics.specs.Net.{rangesAt}
+use Rattle.semantics.specs.ReadNet.{readExpression}
 use Rattle.semantics.specs.Order.{inRanges}
 use Rattle.semantics.specs.Enabling.{Flow}
 use Rattle.word.specs.Fields.{rangeWord}
+use Rattle.evaluation.specs.Evaluate.{lent, Valuation, valued, evaluatedFrom}
 use Rattle.net.specs.Places.{rangesFrom, widthAt, placesAt}
 use Rattle.colours.specs.Code.{ofDigit, coloured}
 use Rattle.arcs.specs.declared.flow.Coefficient.{Coefficient}
 use Rattle.arcs.specs.declared.flow.Coefficient.the-variants.{Tokens as Coefficient-tokens, Nothing as Coefficient-none}
+use Rattle.arcs.specs.declared.flow.Component.{Component}
+use Rattle.arcs.specs.declared.flow.Component.the-variants.{Digit, Outside as Component-outside, Nothing as Component-none}
 use Rattle.arcs.specs.declared.flow.Coded.{Coded}
 use Rattle.arcs.specs.declared.flow.Packed.{Packed}
 use Rattle.arcs.specs.declared.flow.Packed.the-variants.{Code, Outside as Packed-outside, Nothing as Packed-none}
@@ -62,6 +66,16 @@ pub record KeyFits (ws ps : List ℕ) (k : ℕ) : Type 0 where
 abbrev pub coefficientRead : Coefficient → Option (ℕ × ℕ)
 coefficientRead (Coefficient-tokens n next) = some (n, next)
 coefficientRead Coefficient-none = none
+
+-- a component by its value: its digit, or it is in no range
+abbrev pub Componented : Valuation → Component → Type 0
+Componented v (Digit d next) = (v ≡ valued (some (ofDigit d)) next) × (d < 16384)
+Componented v (Component-outside next) = (z : ℤ) × (v ≡ valued (some z) next) × ((range : ℕ) → within (rangeWord range) z ≡ false)
+Componented v Component-none = (next : ℕ) × (v ≡ valued none next)
+
+-- the component at a position
+pub record IsComponent (ws bs : List ℕ) (at : ℕ) (r : Component) : Type 0 where
+  pub told : Componented (evaluatedFrom (lent bs) (readExpression ws (length bs) at)) r
 
 -- a digit of the value z behind a code
 pub record Behind (code : ℕ) (z : ℤ) (r : ℕ) : Type 0 where

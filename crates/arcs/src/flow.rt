@@ -1,21 +1,26 @@
 // What an arc moves under lent binding words: so many tokens of a place and colour, which are one number, a key: the place above the 56 bits of a
 // colour's code.
 use colours::code::digit_of;
-use colours::range::in_range;
+use colours::range::digit_in;
 use evaluation::evaluate::Evaluated;
 use evaluation::evaluate::evaluate;
-use kinds::take::Taken;
-use kinds::take::take;
+use word::fields::kind;
 use word::fields::payload;
 use word::fields::value_word;
+use word::fields::within;
 ghost use mathlib.Core.Path.{_≡_};
 ghost use Prim.Native.Nat.{_≤_, _<_, _+_, _^_};
 ghost use lib.ListN.{length};
+ghost use Rattle.semantics.specs.Lists.{Every};
 ghost use Rattle.semantics.specs.ReadNet.{readExpression};
+ghost use Rattle.word.specs.Fields.{IsValue};
+ghost use Rattle.expression.specs.Standing.{HasExpression, HasSeveral};
 ghost use Rattle.evaluation.specs.Evaluate.{lent};
 ghost use Rattle.net.specs.Places.{PlacesFit};
+ghost use Rattle.net.specs.Standing.{HasArc};
+ghost use Rattle.colours.specs.Code.{ofDigit};
 ghost use Rattle.arcs.specs.Flow.{coefficientOf};
-ghost use Rattle.arcs.specs.Keys.{coefficientRead, IsPut, IsPacked, Below, movedBy, IsMoved};
+ghost use Rattle.arcs.specs.Keys.{coefficientRead, IsComponent, IsPut, IsPacked, Below, movedBy, IsMoved};
 
 // The tokens that a coefficient tells, and the position after it; none where it has no value or is negative.
 pub enum Coefficient {
@@ -23,8 +28,9 @@ pub enum Coefficient {
     Nothing,
 }
 
-// The coefficient at a position.
+// The coefficient that stands at a position.
 fn coefficient_at(net: &[u32], binding: &[u32], at: usize) -> Coefficient
+    requires { ⌜ HasExpression (now net) (length (now binding)) at ⌝ }
     ensures { λ r. ⌜ coefficientRead r ≡ coefficientOf (lent (now (binding .entry))) (readExpression (now (net .entry)) (length (now (binding .entry))) at) ⌝ }
 {
     match evaluate(net, binding, at) {
@@ -35,7 +41,44 @@ fn coefficient_at(net: &[u32], binding: &[u32], at: usize) -> Coefficient
             Coefficient::Tokens(z as u32, next)
         }
         Evaluated::NoValue(_) => Coefficient::Nothing,
-        Evaluated::Nothing => Coefficient::Nothing,
+    }
+}
+
+// A component of a colour, and the position after it: its digit, or it has more than 14 bits; or it has no value.
+pub enum Component {
+    Digit(u64, usize),
+    Outside(usize),
+    Nothing,
+}
+
+// The component that operators make.
+fn computed_at(net: &[u32], binding: &[u32], at: usize) -> Component
+    requires { ⌜ HasExpression (now net) (length (now binding)) at ⌝ }
+    ensures { λ r. ⌜ IsComponent (now (net .entry)) (now (binding .entry)) at r ⌝ }
+{
+    match evaluate(net, binding, at) {
+        Evaluated::Value(z, next) => {
+            if !within(-8192, 8191, z) {
+                return Component::Outside(next);
+            }
+            Component::Digit(digit_of(value_word(z)), next)
+        }
+        Evaluated::NoValue(_) => Component::Nothing,
+    }
+}
+
+// The component that stands at a position. A constant or a lone variable, the common case, is a digit straight from its word.
+fn component_at(net: &[u32], binding: &[u32], at: usize) -> Component
+    requires { ⌜ HasExpression (now net) (length (now binding)) at ⌝ }
+    requires { ⌜ Every IsValue (now binding) ⌝ }
+    ensures { λ r. ⌜ IsComponent (now (net .entry)) (now (binding .entry)) at r ⌝ }
+{
+    let w = net[at];
+    match kind(w) {
+        7 => Component::Digit(digit_of(w), at + 1),
+        8 => Component::Digit(digit_of(binding[payload(w) as usize]), at + 1),
+        0..=6 | 9..=15 => computed_at(net, binding, at),
+        _ => computed_at(net, binding, at),
     }
 }
 
@@ -46,23 +89,22 @@ pub struct Coded {
 }
 
 // One component more, held against its RANGE word.
-fn put_component(c: Coded, range: u32, z: i32) -> Coded
-    requires { ⌜ c .code < 2 ^ 42 ⌝ }
-    ensures { λ r. ⌜ IsPut c range z r ⌝ }
+fn put_digit(c: Coded, range: u32, d: u64) -> Coded
+    requires { ⌜ (c .code < 2 ^ 42) × (d < 16384) ⌝ }
+    ensures { λ r. ⌜ IsPut c range (ofDigit d) r ⌝ }
 {
     if !c.inside {
         return c;
     }
-    if !in_range(range, z) {
+    if !digit_in(range, d) {
         return Coded {
             inside: false,
             code: 0,
         };
     }
-    let digit = digit_of(value_word(z));
     Coded {
         inside: true,
-        code: c.code * 16384 + digit,
+        code: c.code * 16384 + d,
     }
 }
 
@@ -73,9 +115,11 @@ pub enum Packed {
     Nothing,
 }
 
-// The colour of n expressions, one after the other, held against the RANGE words from a position on.
+// The colour of the n expressions that stand one after the other, held against the RANGE words from a position on.
 fn pack(net: &[u32], binding: &[u32], ranges: usize, n: usize, at: usize) -> Packed
     requires { ⌜ (n ≤ 4) × (ranges + n ≤ length (now net)) ⌝ }
+    requires { ⌜ HasSeveral (now net) (length (now binding)) n at ⌝ }
+    requires { ⌜ Every IsValue (now binding) ⌝ }
     ensures { λ r. ⌜ IsPacked (now (net .entry)) (now (binding .entry)) ranges n at r ⌝ }
 {
     let mut coded = Coded {
@@ -85,19 +129,24 @@ fn pack(net: &[u32], binding: &[u32], ranges: usize, n: usize, at: usize) -> Pac
     let mut i = 0;
     let mut next = at;
     while i < n {
-        match evaluate(net, binding, next) {
-            Evaluated::Value(z, p) => {
-                coded = put_component(coded, net[ranges + i], z);
+        match component_at(net, binding, next) {
+            Component::Digit(d, p) => {
+                coded = put_digit(coded, net[ranges + i], d);
                 next = p;
+                i += 1;
             }
-            Evaluated::NoValue(_) => {
-                return Packed::Nothing;
+            Component::Outside(q) => {
+                coded = Coded {
+                    inside: false,
+                    code: 0,
+                };
+                next = q;
+                i += 1;
             }
-            Evaluated::Nothing => {
+            Component::Nothing => {
                 return Packed::Nothing;
             }
         }
-        i += 1;
     }
     if coded.inside {
         return Packed::Code(coded.code);
@@ -136,27 +185,21 @@ fn tokens_of(place: usize, amount: u32, colour: Packed) -> Moved
     }
 }
 
-// What the arc at a position moves, in a net with these positions of places.
+// What the arc that stands at a position moves, in a net with these positions of places.
 pub fn move_at(net: &[u32], places: &[usize], binding: &[u32], at: usize) -> Moved
     requires { ⌜ PlacesFit (now net) (now places) ⌝ }
+    requires { ⌜ HasArc (now net) (now places) (length (now binding)) at ⌝ }
+    requires { ⌜ Every IsValue (now binding) ⌝ }
     ensures { λ r. ⌜ IsMoved (now (net .entry)) (now (places .entry)) (now (binding .entry)) at r ⌝ }
 {
-    match take(net, at, 5) {
-        Taken::Word(q) => {
-            let place = q as usize;
-            if places.len() <= place {
-                return Moved::Nothing;
-            }
-            match coefficient_at(net, binding, at + 1) {
-                Coefficient::Tokens(amount, next) => {
-                    let from = places[place];
-                    let width = payload(net[from]) as usize;
-                    let colour = pack(net, binding, from + 1, width, next);
-                    tokens_of(place, amount, colour)
-                }
-                Coefficient::Nothing => Moved::Nothing,
-            }
+    let place = payload(net[at]) as usize;
+    match coefficient_at(net, binding, at + 1) {
+        Coefficient::Tokens(amount, next) => {
+            let from = places[place];
+            let width = payload(net[from]) as usize;
+            let colour = pack(net, binding, from + 1, width, next);
+            tokens_of(place, amount, colour)
         }
-        Taken::Refused(_, _) => Moved::Nothing,
+        Coefficient::Nothing => Moved::Nothing,
     }
 }

@@ -4,7 +4,10 @@ use crate::flow::move_at;
 ghost use mathlib.Core.Path.{_≡_};
 ghost use Prim.Native.Nat.{_≤_};
 ghost use lib.ListN.{length};
+ghost use Rattle.semantics.specs.Lists.{Every};
+ghost use Rattle.word.specs.Fields.{IsValue};
 ghost use Rattle.net.specs.Places.{PlacesFit};
+ghost use Rattle.net.specs.Standing.{HasArc};
 ghost use Rattle.arcs.specs.Keys.{IsGathered};
 
 // How many keys were gathered; none where an arc has no flow, or moves a colour that its place cannot have.
@@ -13,7 +16,7 @@ pub struct Gathered {
     pub n: usize,
 }
 
-// Writes the key and the amount of each of the arcs at these positions that moves something, one after the other.
+// Writes the key and the amount of each of the arcs that stand at these positions and moves something, one after the other.
 pub fn gather(
     net: &[u32],
     places: &[usize],
@@ -25,6 +28,8 @@ pub fn gather(
     requires { ⌜ PlacesFit (now net) (now places) ⌝ }
     requires { ⌜ length (now ats) ≤ 8 ⌝ }
     requires { ⌜ (length (now keys) ≡ 8) × (length (now amounts) ≡ 8) ⌝ }
+    requires { ⌜ Every (HasArc (now net) (now places) (length (now binding))) (now ats) ⌝ }
+    requires { ⌜ Every IsValue (now binding) ⌝ }
     ensures { λ r. ⌜ IsGathered (now (net .entry)) (now (places .entry)) (now (binding .entry)) (now (ats .entry)) r (now (keys .exit)) (now (amounts .exit)) ⌝ }
 {
     let mut n = 0;

@@ -19,7 +19,8 @@ use Rattle.arrivals.specs.declared.step.Step.{Step}
 use Rattle.tries.specs.Partial.{partialOf}
 use Rattle.matches.specs.Met.{matchedBy}
 use Rattle.matches.specs.Known.{Knows, Differs, DiffersIf}
-use Rattle.solving.specs.Solve.{solvedAt, HasConjunct}
+use Rattle.net.specs.Standing.{HasConjunct}
+use Rattle.solving.specs.Solve.{solvedAt}
 use Rattle.tries.specs.Range.{valueAt, upFrom}
 use Rattle.arrivals.specs.Step.{Inside, SafeBy, Safe, ReadyBy, Ready, triesOf, triesBy}
 use Rattle.matches.proofs.Knowing.{differs-fails}

@@ -36,7 +36,8 @@ use Rattle.counts.specs.Counts.{coloursAt}
 use Rattle.counts.proofs.Ranked.{colours-length}
 use Rattle.arrivals.specs.declared.step.Step.{Step}
 use Rattle.matches.specs.Met.{matchedBy}
-use Rattle.solving.specs.Solve.{solvedAt, HasConjunct}
+use Rattle.net.specs.Standing.{HasConjunct}
+use Rattle.solving.specs.Solve.{solvedAt}
 use Rattle.tries.specs.Range.{valueAt, upFrom}
 use Rattle.arrivals.specs.Step.{Aimed, ReadyBy, Ready, triesOf, triesBy, Told, IsArrival}
 use Rattle.arrivals.specs.World.{World}

@@ -19,7 +19,8 @@ use Rattle.counts.specs.Counts.{coloursAt}
 use Rattle.arrivals.specs.declared.step.Step.{Step}
 use Rattle.matches.specs.Met.{matchedBy}
 use Rattle.matches.specs.Known.{Knows}
-use Rattle.solving.specs.Solve.{solvedAt, HasConjunct}
+use Rattle.net.specs.Standing.{HasConjunct}
+use Rattle.solving.specs.Solve.{solvedAt}
 use Rattle.tries.specs.Range.{valueAt, CountsValues, upFrom}
 
 -- words are the first ones of expressions

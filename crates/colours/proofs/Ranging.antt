@@ -46,7 +46,9 @@ module _ (range : ℕ) (z : ℤ) {x : Bool} (e : x ≡ within (ends (negsuc 8191
       by (inl w) = absurd (not-both x (e ∙ fourteen z (range-small range z w)) (not-true x d))
       by (inr w) = w
 
+  pub fourteen-bits : not x ≡ false → mag z < 8192
+  fourteen-bits d = within-mag (ends (negsuc 8191) (pos 8191)) z (omega arith) (omega arith) (sym e ∙ not-false x d)
+
   pub range-digit : not x ≡ false → {w : ℕ} (d : ℕ) {t : Bool} → w ≡ valueWord z → ofDigit d ≡ signed (w % 16384) → t ≡ within (rangeWord range) (ofDigit d) → t ≡ within (rangeWord range) z
   range-digit d {w} k f g r =
-      let s = within-mag (ends (negsuc 8191) (pos 8191)) z (omega arith) (omega arith) (sym e ∙ not-false x d) in
-      r ∙ ap (within (rangeWord range)) (g ∙ ap (λ (k : ℕ). signed (k % 16384)) f ∙ value-back z s)
+      r ∙ ap (within (rangeWord range)) (g ∙ ap (λ (k : ℕ). signed (k % 16384)) f ∙ value-back z (fourteen-bits d))

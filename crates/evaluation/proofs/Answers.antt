@@ -1,23 +1,26 @@
--- What an evaluated expression was: the tree that is read and its value, or nothing that can be read. Read off the promise of evaluate. And what the
--- VALUE words of a binding are as an environment.
-use mathlib.Core.Path.{_≡_, refl, ap, _∙_}
+-- What an evaluated expression was: the tree that is read and its value. Read off the promise of evaluate. And what the VALUE words of a binding
+-- are as an environment.
+use mathlib.Core.Path.{_≡_, refl, sym, ap, _∙_}
 use mathlib.Core.List.{List, [], _∷_, map}
 use mathlib.Core.Option.{Option, none, some, bind}
-use Prim.Native.Nat.{ℕ, zero, suc, _<_, _^_}
+use Prim.Native.Nat.{ℕ, zero, suc, _%_, _<_, _^_}
+use native.Mathlib.Omega.{arith}
 use borrow.Author.Tests.{lt-ltb}
 use lib.IntN.{ℤ}
 use lib.Signed.{mag}
 use lib.ListN.{length}
 use Rattle.semantics.specs.Lists.{Every}
-use Rattle.semantics.specs.Word.{modulo, valueWord}
+use Rattle.semantics.specs.Word.{modulo, signed, valueWord}
 use Rattle.semantics.specs.Expression.{Expression, houseTable, value, bound}
 use Rattle.semantics.specs.Reading.{Reading, read, refused}
 use Rattle.semantics.specs.ReadNet.{readExpression}
 use Rattle.semantics.proofs.Tests.{false-true}
+use Rattle.semantics.proofs.Accepted.{signed-small}
 use Rattle.semantics.proofs.Words.{modulo-below, value-kind, value-payload, signed-modulo}
+use Rattle.word.specs.Fields.{IsValue}
 use Rattle.evaluation.specs.declared.evaluate.Evaluated.{Evaluated}
-use Rattle.evaluation.specs.declared.evaluate.Evaluated.the-variants.{Value, NoValue, Nothing}
-use Rattle.evaluation.specs.Evaluate.{valueOf, lent, valued, unread, evaluated, evaluatedFrom}
+use Rattle.evaluation.specs.declared.evaluate.Evaluated.the-variants.{Value, NoValue}
+use Rattle.evaluation.specs.Evaluate.{valueOf, lent, valued, evaluated, evaluatedFrom}
 
 -- an expression is read at a position, and has a value or none
 pub record Valued (ws bs : List ℕ) (at : ℕ) (v : Option ℤ) (next : ℕ) : Type 0 where
@@ -25,20 +28,13 @@ pub record Valued (ws bs : List ℕ) (at : ℕ) (v : Option ℤ) (next : ℕ) : 
   pub reads : readExpression ws (length bs) at ≡ read tree next
   pub same : value houseTable (lent bs) tree ≡ v
 
--- no expression is read there
-pub record Unread (ws bs : List ℕ) (at : ℕ) : Type 0 where
-  pub number : ℕ
-  pub position : ℕ
-  pub reads : readExpression ws (length bs) at ≡ refused number position
-
 module _ (ws bs : List ℕ) (at : ℕ) where
   read-valued : (v : Option ℤ) (p : ℕ) (x : Reading Expression) → readExpression ws (length bs) at ≡ x → valued v p ≡ evaluatedFrom (lent bs) x → Valued ws bs at v p
   read-valued v p (read e next) q f = let i : next ≡ p = cc in record { tree = e; reads = q ∙ ap (read e) i; same = cc }
   read-valued v p (refused n m) q f = false-true (cc)
 
-  read-nothing : (x : Reading Expression) → readExpression ws (length bs) at ≡ x → unread ≡ evaluatedFrom (lent bs) x → Unread ws bs at
-  read-nothing (read e next) q f = false-true (cc)
-  read-nothing (refused n m) q f = record { number = n; position = m; reads = q }
+  pub known-valued : {v : Option ℤ} {p : ℕ} → evaluatedFrom (lent bs) (readExpression ws (length bs) at) ≡ valued v p → Valued ws bs at v p
+  known-valued {v} {p} h = read-valued v p (readExpression ws (length bs) at) refl (sym h)
 
   module _ {r : Evaluated} (h : evaluated r ≡ evaluatedFrom (lent bs) (readExpression ws (length bs) at)) where
     pub has-value : {z : ℤ} {p : ℕ} → r ≡ Value z p → Valued ws bs at (some z) p
@@ -46,9 +42,6 @@ module _ (ws bs : List ℕ) (at : ℕ) where
 
     pub has-none : {p : ℕ} → r ≡ NoValue p → Valued ws bs at none p
     has-none {p} d = read-valued none p (readExpression ws (length bs) at) refl (rw d at h)
-
-    pub is-unread : r ≡ Nothing → Unread ws bs at
-    is-unread d = read-nothing (readExpression ws (length bs) at) refl (rw d at h)
 
 -- ── An expression that is known to be read ──
 
@@ -68,6 +61,10 @@ module _ (ws : List ℕ) (variables at : ℕ) {e : Expression} {next : ℕ} (x :
 
 value-written : (z : ℤ) → mag z < 8192 → valueOf (valueWord z) ≡ some z
 value-written z h = rw (value-kind z, value-payload z, lt-ltb (modulo z (2 ^ 14)) (2 ^ 14) (modulo-below z), signed-modulo z h)
+
+-- a VALUE word has a value
+pub value-known : (w : ℕ) → IsValue w → valueOf w ≡ some (signed (w % 16384))
+value-known w h = ap valueOf (sym h) ∙ value-written (signed (w % 16384)) (signed-small (w % 16384) (omega arith))
 
 -- the VALUE words of a binding, as an environment, are the binding
 pub lent-bound : (b : List ℤ) → Every (λ z. mag z < 8192) b → (n : ℕ) → lent (map valueWord b) n ≡ bound b n

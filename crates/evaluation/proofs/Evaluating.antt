@@ -1,16 +1,24 @@
--- The rules of evaluating: the value of an expression, from its head and the outcomes of its operands. Each is one arm of the code.
-use mathlib.Core.Path.{_≡_, refl}
+-- The rules of evaluating: the value of an expression, from its first word and the outcomes of its operands. Each is one arm of the code. The idea: where
+-- an expression stands its head is not refused, so its word passes every test of a head, and an operator's operands stand behind it.
+use mathlib.Core.Path.{_≡_, refl, sym, _∙_}
+use mathlib.Core.Bool.{Bool, true, false}
 use mathlib.Core.List.{List}
 use mathlib.Core.Option.{Option, bind}
-use Prim.Native.Nat.{ℕ, _+_, _*_, _-_, _<_}
+use Prim.Native.Nat.{ℕ, _+_, _*_, _-_, _%_, _≤_, _<_}
 use native.Mathlib.Omega.{arith}
 use borrow.Author.Needs.{needs}
+use borrow.Author.Tests.{leb-true, leb-false}
+use mir.Syntax.{w64}
+use mir.Val.{Fits}
+use lib.Dec.{leb}
 use lib.IntN.{ℤ}
 use lib.ListN.{length, getD}
 use Rattle.semantics.specs.Expression.{Operator, Expression, Environment, binary, load, operate, loadOf, houseTable, value}
 use Rattle.semantics.proofs.Members.{elem-number}
 use Rattle.semantics.specs.Reading.{Reading, read, refused, then, Reader}
+use Rattle.semantics.specs.Word.{kind, payload, signed}
 use Rattle.semantics.specs.ReadNet.{binaryHead, expressionIn}
+use Rattle.semantics.proofs.Spans.{refused-read, then-read}
 use Rattle.semantics.specs.ReadNet.{operands as operandsOf}
 use Rattle.numbers.specs.declared.number.Number.{Number}
 use Rattle.numbers.specs.declared.number.Number.the-variants.{Some}
@@ -19,10 +27,9 @@ use Rattle.numbers.specs.Number.{number}
 use Rattle.expression.specs.declared.head.Head.{Head}
 use Rattle.expression.specs.declared.head.Head.the-variants.{Constant, Variable, Binary, Load, Refused}
 use Rattle.evaluation.specs.declared.evaluate.Outcome.{Outcome}
-use Rattle.evaluation.specs.declared.evaluate.Outcome.the-variants.{Gives, Nothing}
-use Rattle.expression.specs.Head.{Onward, IsHead}
-use Rattle.evaluation.specs.Evaluate.{valueOf, lent, Valuation, valued, unread, evaluatedFrom, outcome, OutcomeOnward, IsOutcome, IsTwo, IsLoaded}
-use Rattle.expression.proofs.Heads.{onward-more, head-onward, headed, in-range, load-falls, first-falls}
+use Rattle.expression.specs.Head.{head, Onward, IsHead}
+use Rattle.evaluation.specs.Evaluate.{valueOf, lent, Valuation, valued, unread, evaluatedFrom, Stands, StandTwo, outcome, IsOutcome, IsTwo, IsLoaded}
+use Rattle.expression.proofs.Heads.{constant-word, variable-word, binary-word, load-word, stray-constant, missing-variable, unknown-operator, other-word, words-end, too-many, sixteenth, taken, onward-more, head-onward, headed}
 
 -- ── Values of readings ──
 
@@ -55,101 +62,149 @@ lent-at : (bs : List ℕ) (n : ℕ) → n < length bs → lent bs n ≡ valueOf 
 unfolding bind
 lent-at bs n h = rw (elem-number bs n 0 h)
 
--- ── The rules ──
+-- ── Where an expression stands ──
 
-outcome-onward : {ws bs : List ℕ} {at left : ℕ} {r s : Outcome} → IsOutcome ws bs at left r → r ≡ s → OutcomeOnward ws at left s
-outcome-onward x e = rw e at (x .onward)
+below : (a b : ℕ) → (b ≤ a → ⊥) → a < b
+below a b f = by (leb b a) refl
+  where
+    by : (t : Bool) → leb b a ≡ t → a < b
+    by true e = absurd (f (leb-true b a e))
+    by false e = leb-false b a e
 
-outcome-more : {ws : List ℕ} {at left a l : ℕ} → Onward ws at left a l → (r : Outcome) → OutcomeOnward ws a l r → OutcomeOnward ws at left r
-outcome-more q (Gives x next rest) p = onward-more q p
-outcome-more q Nothing p = tt
+module _ {ws : List ℕ} {v at left : ℕ} (s : Stands ws v at left) where
+  never : {X : Type 0} {n p : ℕ} → IsHead ws v at left (Refused n p) → X
+  never {n = n} {p = p} x = refused-read n p (s .tree) (s .next) (sym (headed x refl (s .rounds) (at + left) (s .enough) refl) ∙ s .reads)
 
-module _ {ws bs : List ℕ} {at left : ℕ} {t : Head} (x : IsHead ws (length bs) at left t) where
-  pub refused-head : {n p : ℕ} → t ≡ Refused n p → IsOutcome ws bs at left Nothing
-  refused-head e = record { same = λ rounds stop h s. rw (headed x e rounds stop h s); onward = tt }
+  pub in-words : at < length ws
+  in-words = below at (length ws) (λ h. never (words-end h))
 
-  pub constant-head : {y z : ℤ} {a l : ℕ} → t ≡ Constant z a l → y ≡ z → IsOutcome ws bs at left (Gives (Some y) a l)
+  pub in-limit : at < 16384
+  in-limit = below at 16384 (λ h. never (too-many in-words h))
+
+  pub next-fits : Fits w64 (at + 1)
+  next-fits = let h = in-limit in record { fits = omega arith }
+
+  none-left : left ≡ 0 → ⊥
+  none-left z = never (sixteenth in-words in-limit z)
+
+  pub some-left : 0 < left
+  some-left = below 0 left (λ h. none-left (omega arith))
+
+  module _ {k u : ℕ} (e : k ≡ kind (getD ws at 0)) (d : u ≡ payload (getD ws at 0)) where
+    constant-fits : k ≡ 7 → u < 16384
+    constant-fits i = below u 16384 (λ h. never (taken in-words in-limit none-left (stray-constant e d i h)))
+
+    pub in-range : k ≡ 8 → u < v
+    in-range i = below u v (λ h. never (taken in-words in-limit none-left (missing-variable e d i h)))
+
+    constant-head : {z : ℤ} → k ≡ 7 → z ≡ signed (getD ws at 0 % 16384) → IsHead ws v at left (Constant z (at + 1) (left - 1))
+    constant-head i f = taken in-words in-limit none-left (constant-word e d in-limit some-left i (constant-fits i) f)
+
+    variable-head : k ≡ 8 → IsHead ws v at left (Variable u (at + 1) (left - 1))
+    variable-head i = taken in-words in-limit none-left (variable-word e d in-limit some-left i (in-range i))
+
+    binary-head : k ≡ 9 → u < 4 → IsHead ws v at left (Binary u (at + 1) (left - 1))
+    binary-head i h = taken in-words in-limit none-left (binary-word e d in-limit some-left i h)
+
+    load-head : k ≡ 9 → u ≡ 4 → IsHead ws v at left (Load (at + 1) (left - 1))
+    load-head i h = taken in-words in-limit none-left (load-word e d in-limit some-left i h)
+
+    -- the operands behind an operator
+    pub load-stands : k ≡ 9 → u ≡ 4 → Stands ws v (at + 1) (left - 1)
+    load-stands i h =
+        let p = some-left in
+        let q : at + 1 + (left - 1) ≡ at + left = omega arith in
+        then-read (expressionIn (s .rounds - 1) ws v (at + left) (at + 1)) _ (s .tree) (s .next) (sym (headed (load-head i h) refl (s .rounds) (at + left) (s .enough) refl) ∙ s .reads) λ a mid r t.
+        record { rounds = s .rounds - 1; enough = omega (arith, s .enough); tree = a; next = mid; reads = rw q r }
+
+    pub two-stand : k ≡ 9 → u < 4 → StandTwo ws v (at + 1) (left - 1)
+    two-stand i h =
+        let p = some-left in
+        let q : at + 1 + (left - 1) ≡ at + left = omega arith in
+        then-read (expressionIn (s .rounds - 1) ws v (at + left) (at + 1)) _ (s .tree) (s .next) (sym (headed (binary-head i h) refl (s .rounds) (at + left) (s .enough) refl) ∙ s .reads) λ a mid r t.
+        then-read (expressionIn (s .rounds - 1) ws v (at + left) mid) _ (s .tree) (s .next) t λ b next f g.
+        record { rounds = s .rounds - 1; enough = omega (arith, s .enough); first = a; mid = mid; second = b; next = next; reads-first = rw q r; reads-second = rw q f }
+
+-- ── By the first word ──
+
+module _ {ws bs : List ℕ} {at left : ℕ} (s : Stands ws (length bs) at left) {k u : ℕ} (e : k ≡ kind (getD ws at 0)) (d : u ≡ payload (getD ws at 0)) where
+  pub constant : {y z : ℤ} → k ≡ 7 → z ≡ signed (getD ws at 0 % 16384) → y ≡ z → IsOutcome ws bs at left (record { value = Some y; next = at + 1; left = left - 1 })
   unfolding value
-  constant-head e d = record { same = λ rounds stop h s. rw (headed x e rounds stop h s, d); onward = head-onward x e }
+  constant i f g =
+      let x = constant-head s e d i f in
+      record { same = λ rounds stop h j. rw (headed x refl rounds stop h j, g); onward = head-onward x refl }
 
-  pub variable-head : {n a l : ℕ} {v : Number} → t ≡ Variable n a l → number v ≡ valueOf (getD bs n 0) → IsOutcome ws bs at left (Gives v a l)
+  pub variable : {n : Number} → k ≡ 8 → number n ≡ valueOf (getD bs u 0) → IsOutcome ws bs at left (record { value = n; next = at + 1; left = left - 1 })
   unfolding value
-  variable-head {n} e d =
-      let q = head-onward x e in
-      record { same = λ rounds stop h s. rw (headed x e rounds stop h s, d, lent-at bs n (q .0)); onward = q .1 }
+  variable i f =
+      let x = variable-head s e d i in
+      record { same = λ rounds stop h j. rw (headed x refl rounds stop h j, f, lent-at bs u (in-range s e d i)); onward = head-onward x refl .1 }
 
   -- what follows an operator leads onward from it
-  pub load-head : {a l : ℕ} {r : Outcome} → t ≡ Load a l → IsLoaded ws bs a l r → IsOutcome ws bs at left r
-  load-head {a} {l} {r} e y =
-      let q : Onward ws at left a l = head-onward x e in
+  pub loaded : {r : Outcome} → k ≡ 9 → u ≡ 4 → IsLoaded ws bs (at + 1) (left - 1) r → IsOutcome ws bs at left r
+  loaded i h y =
+      let x = load-head s e d i h in
+      let q : Onward ws at left (at + 1) (left - 1) = head-onward x refl in
       record {
-        same = λ rounds stop h s. rw (headed x e rounds stop h s) (y .same (rounds - 1) stop (omega arith) (omega arith));
-        onward = outcome-more q r (y .onward);
+        same = λ rounds stop h j. rw (headed x refl rounds stop h j) (y .same (rounds - 1) stop (omega arith) (omega arith));
+        onward = onward-more q (y .onward);
       }
 
-  pub binary-head : {k a l : ℕ} {r : Outcome} → t ≡ Binary k a l → IsTwo ws bs k a l r → IsOutcome ws bs at left r
-  binary-head {k} {a} {l} {r} e y =
-      let q : Onward ws at left a l = head-onward x e in
+  pub operated-on : {r : Outcome} → k ≡ 9 → u < 4 → IsTwo ws bs u (at + 1) (left - 1) r → IsOutcome ws bs at left r
+  operated-on i h y =
+      let x = binary-head s e d i h in
+      let q : Onward ws at left (at + 1) (left - 1) = head-onward x refl in
       record {
-        same = λ rounds stop h s. rw (headed x e rounds stop h s) (y .same (rounds - 1) stop (omega arith) (omega arith));
-        onward = outcome-more q r (y .onward);
+        same = λ rounds stop h j. rw (headed x refl rounds stop h j) (y .same (rounds - 1) stop (omega arith) (omega arith));
+        onward = onward-more q (y .onward);
       }
+
+  -- the codes and the kinds that are not used
+  pub no-operator : {r : Outcome} → k ≡ 9 → 4 ≤ u → (u ≡ 4 → ⊥) → IsOutcome ws bs at left r
+  no-operator i h n = never s (taken (in-words s) (in-limit s) (none-left s) (unknown-operator e d i h n))
+
+  pub no-kind : {r : Outcome} → (k ≡ 7 → ⊥) → (k ≡ 8 → ⊥) → (k ≡ 9 → ⊥) → IsOutcome ws bs at left r
+  no-kind f g h = never s (taken (in-words s) (in-limit s) (none-left s) (other-word e d f g h))
 
 -- ── Operands ──
 
+pub first-stands : {ws : List ℕ} {v at left : ℕ} → StandTwo ws v at left → Stands ws v at left
+first-stands s = record { rounds = s .rounds; enough = s .enough; tree = s .first; next = s .mid; reads = s .reads-first }
+
 module _ {ws bs : List ℕ} {at left : ℕ} {r : Outcome} (y : IsOutcome ws bs at left r) where
-  pub load-unread : r ≡ Nothing → IsLoaded ws bs at left Nothing
-  load-unread d =
-      record { same = λ rounds stop h s. rw (from-load (lent bs), ← y .same rounds stop h s, d); onward = tt }
+  pub load-operand : {n : Number} → number n ≡ bind (number (r .value)) (loadOf houseTable) → IsLoaded ws bs at left (record { value = n; next = r .next; left = r .left })
+  load-operand i =
+      record { same = λ rounds stop h s. rw (from-load (lent bs), ← y .same rounds stop h s, i); onward = y .onward }
 
-  pub load-operand : {u v : Number} {b m : ℕ} → r ≡ Gives u b m → number v ≡ bind (number u) (loadOf houseTable) → IsLoaded ws bs at left (Gives v b m)
-  load-operand d i =
-      record { same = λ rounds stop h s. rw (from-load (lent bs), ← y .same rounds stop h s, d, i); onward = outcome-onward y d }
+  -- the second operand stands where the first ends
+  pub second-stands : StandTwo ws (length bs) at left → Stands ws (length bs) (r .next) (r .left)
+  second-stands s =
+      let o = y .onward in
+      let p : r .next + r .left ≡ at + left = o .same-end in
+      let f : outcome r ≡ valued (value houseTable (lent bs) (s .first)) (s .mid) = rw (s .reads-first) at (y .same (s .rounds) (at + left) (s .enough) refl) in
+      let m : r .next ≡ s .mid = cc in
+      record { rounds = s .rounds; enough = omega (arith, s .enough); tree = s .second; next = s .next; reads = rw (p, m) (s .reads-second) }
 
-  pub first-unread : (k : ℕ) → r ≡ Nothing → IsTwo ws bs k at left Nothing
-  first-unread k d =
-      record {
-        same = λ rounds stop h s. rw (from-both (lent bs) (operatorOf k) (expressionIn rounds ws (length bs) stop), ← y .same rounds stop h s, d);
-        onward = tt;
-      }
-
-  module _ {u : Number} {b m : ℕ} (d : r ≡ Gives u b m) where
-    -- the second operand has fewer words left
-    pub second-falls : m < left
-    second-falls =
-        let p : Onward ws at left b m = outcome-onward y d in
-        omega arith
-
-    module _ (k : ℕ) {s : Outcome} (z : IsOutcome ws bs b m s) where
-      both : (rounds stop : ℕ) → left < rounds → at + left ≡ stop → evaluatedFrom (lent bs) (operandsOf (expressionIn rounds ws (length bs) stop) (binaryHead (operatorOf k)) at) ≡ thenValued (outcome s) (λ v next. valued (operated (operatorOf k) (number u) v) next)
-      both rounds stop h i =
-          let p : Onward ws at left b m = outcome-onward y d in
-          rw (from-both (lent bs) (operatorOf k) (expressionIn rounds ws (length bs) stop), ← y .same rounds stop h i, d, ← z .same rounds stop (omega arith) (omega arith))
-
-      pub second-unread : s ≡ Nothing → IsTwo ws bs k at left Nothing
-      second-unread f = record { same = λ rounds stop h i. rw (both rounds stop h i, f); onward = tt }
-
-      pub operands : {v w : Number} {c n : ℕ} → s ≡ Gives v c n → number w ≡ operated (operatorOf k) (number u) (number v) → IsTwo ws bs k at left (Gives w c n)
-      operands {c = c} {n = n} f j =
-          let p : Onward ws at left b m = outcome-onward y d in
-          let o : Onward ws b m c n = outcome-onward z f in
-          record { same = λ rounds stop h i. rw (both rounds stop h i, f, j); onward = onward-more p o }
+  module _ (k : ℕ) {t : Outcome} (z : IsOutcome ws bs (r .next) (r .left) t) where
+    pub operands : {n : Number} → number n ≡ operated (operatorOf k) (number (r .value)) (number (t .value)) → IsTwo ws bs k at left (record { value = n; next = t .next; left = t .left })
+    operands j =
+        let p = y .onward in
+        record {
+          same = λ rounds stop h i. rw (from-both (lent bs) (operatorOf k) (expressionIn rounds ws (length bs) stop), ← y .same rounds stop h i, ← z .same rounds stop (omega arith) (omega arith), j);
+          onward = onward-more p (z .onward);
+        }
 
 -- ── The measure: twice the words left, and one more behind an operator ──
 
-module _ {ws : List ℕ} {variables at left a l n : ℕ} {t : Head} (x : IsHead ws variables at left t) where
-  pub load-measure : t ≡ Load a l → 2 * left ≡ n → 2 * l + 1 < n
-  load-measure e d = let q = load-falls x e refl in omega arith
-
-  pub binary-measure : {k : ℕ} → t ≡ Binary k a l → 2 * left ≡ n → 2 * l + 1 < n
-  binary-measure e d = let q = first-falls x e refl in omega arith
+pub behind-measure : {ws : List ℕ} {v at left n : ℕ} → Stands ws v at left → 2 * left ≡ n → 2 * (left - 1) + 1 < n
+behind-measure s d = let q = some-left s in omega arith
 
 pub operand-measure : (left : ℕ) {n : ℕ} → 2 * left + 1 ≡ n → 2 * left < n
 operand-measure left d = omega arith
 
-pub second-measure : {ws bs : List ℕ} {at left b m n : ℕ} {r : Outcome} {u : Number} → IsOutcome ws bs at left r → r ≡ Gives u b m → 2 * left + 1 ≡ n → 2 * m < n
-second-measure y e d = let q = second-falls y e in omega arith
+pub second-measure : {ws bs : List ℕ} {at left n : ℕ} {r : Outcome} → IsOutcome ws bs at left r → 2 * left + 1 ≡ n → 2 * r .left < n
+second-measure y d = let q = y .onward in omega arith
 
-pub ruleset evaluating = (needs, refused-head, constant-head, variable-head, in-range, load-head, binary-head, load-measure, binary-measure)
+pub ruleset evaluating = (needs, in-words, next-fits, some-left, in-range, no-operator, no-kind, load-stands, two-stand, constant, variable, loaded, operated-on, behind-measure)
 
-pub ruleset operating = (needs, load-unread, load-operand, first-unread, second-unread, operands, operand-measure, second-measure)
+pub ruleset operating = (needs, first-stands, second-stands, load-operand, operands, operand-measure, second-measure)

@@ -1,10 +1,13 @@
--- An evaluated expression as a whole: fifteen words are left at its start. A constant and a lone variable by their head alone, any other by its outcome.
+-- An evaluated expression as a whole: fifteen words are left at its start, and sixteen rounds are more than these. A constant and a lone variable are
+-- told by the rules of their first word.
 use mathlib.Core.Path.{_≡_, refl}
 use mathlib.Core.List.{List}
 use mathlib.Core.Option.{none, some}
-use Prim.Native.Nat.{ℕ, _+_, _%_, _≤_, _<_}
+use Prim.Native.Nat.{ℕ, _+_, _%_, _<_}
 use native.Mathlib.Omega.{arith}
 use borrow.Author.Needs.{needs}
+use mir.Syntax.{w64}
+use mir.Val.{Fits}
 use lib.IntN.{ℤ}
 use lib.ListN.{length, getD}
 use Rattle.semantics.specs.Refusal.{mostExpressionWords}
@@ -13,71 +16,51 @@ use Rattle.semantics.specs.ReadNet.{readExpression}
 use Rattle.numbers.specs.declared.number.Number.{Number}
 use Rattle.numbers.specs.declared.number.Number.the-variants.{Some, None}
 use Rattle.numbers.specs.Number.{number}
-use Rattle.expression.specs.declared.head.Head.{Head}
-use Rattle.expression.specs.declared.head.Head.the-variants.{Constant, Variable, Refused}
+use Rattle.expression.specs.Standing.{HasExpression}
 use Rattle.evaluation.specs.declared.evaluate.Outcome.{Outcome}
-use Rattle.evaluation.specs.declared.evaluate.Outcome.the-variants.{Gives, Nothing}
-use Rattle.expression.specs.Head.{IsHead}
-use Rattle.evaluation.specs.Evaluate.{valueOf, lent, valued, unread, evaluatedFrom, outcome, IsOutcome}
-use Rattle.expression.proofs.Heads.{words-end, too-many, constant-read, constant-stray, variable-read, variable-missing}
-use Rattle.evaluation.proofs.Evaluating.{refused-head, constant-head, variable-head}
+use Rattle.evaluation.specs.Evaluate.{valueOf, lent, valued, evaluatedFrom, Stands, outcome, IsOutcome}
+use Rattle.evaluation.proofs.Evaluating.{in-words, next-fits, in-range, constant, variable}
 
 -- ── By the outcome ──
+
+pub whole-stands : {ws : List ℕ} {v at : ℕ} → HasExpression ws v at → Stands ws v at mostExpressionWords
+unfolding readExpression
+whole-stands h = record { rounds = mostExpressionWords + 1; enough = omega arith; tree = h .tree; next = h .next; reads = h .reads }
 
 module _ {ws bs : List ℕ} {at : ℕ} {r : Outcome} (x : IsOutcome ws bs at mostExpressionWords r) where
   whole : outcome r ≡ evaluatedFrom (lent bs) (readExpression ws (length bs) at)
   unfolding readExpression
   whole = x .same (mostExpressionWords + 1) (at + mostExpressionWords) (omega arith) refl
 
-  pub value : {u : Number} {y z : ℤ} {a l : ℕ} → r ≡ Gives u a l → u ≡ Some z → y ≡ z → valued (some y) a ≡ evaluatedFrom (lent bs) (readExpression ws (length bs) at)
-  value e d i = rw i (rw (e, d) at whole)
+  pub value : {y z : ℤ} → r .value ≡ Some z → y ≡ z → valued (some y) (r .next) ≡ evaluatedFrom (lent bs) (readExpression ws (length bs) at)
+  value d i = rw i (rw d at whole)
 
-  pub no-value : {u : Number} {a l : ℕ} → r ≡ Gives u a l → u ≡ None → valued none a ≡ evaluatedFrom (lent bs) (readExpression ws (length bs) at)
-  no-value e d = rw (e, d) at whole
+  pub no-value : r .value ≡ None → valued none (r .next) ≡ evaluatedFrom (lent bs) (readExpression ws (length bs) at)
+  no-value d = rw d at whole
 
-  pub nothing : r ≡ Nothing → unread ≡ evaluatedFrom (lent bs) (readExpression ws (length bs) at)
-  nothing e = rw e at whole
-
-pub ruleset outcomes = (needs, value, no-value, nothing)
-
--- ── By the head ──
-
-module _ {ws : List ℕ} (bs : List ℕ) {at : ℕ} {t : Head} (x : IsHead ws (length bs) at mostExpressionWords t) where
-  pub refused-whole : {n p : ℕ} → t ≡ Refused n p → unread ≡ evaluatedFrom (lent bs) (readExpression ws (length bs) at)
-  refused-whole e = nothing {bs = bs} (refused-head {bs = bs} x e) refl
-
-  pub constant-whole : {y z : ℤ} {a l : ℕ} → t ≡ Constant z a l → y ≡ z → valued (some y) a ≡ evaluatedFrom (lent bs) (readExpression ws (length bs) at)
-  constant-whole e d = value {bs = bs} (constant-head {bs = bs} x e d) refl refl refl
-
-  pub variable-value : {n a l : ℕ} {v : Number} {y z : ℤ} → t ≡ Variable n a l → number v ≡ valueOf (getD bs n 0) → v ≡ Some z → y ≡ z → valued (some y) a ≡ evaluatedFrom (lent bs) (readExpression ws (length bs) at)
-  variable-value e d f g = value {bs = bs} (variable-head {bs = bs} x e d) refl f g
-
-  pub variable-none : {n a l : ℕ} {v : Number} → t ≡ Variable n a l → number v ≡ valueOf (getD bs n 0) → v ≡ None → valued none a ≡ evaluatedFrom (lent bs) (readExpression ws (length bs) at)
-  variable-none e d f = no-value {bs = bs} (variable-head {bs = bs} x e d) refl f
+pub ruleset outcomes = (needs, whole-stands, value, no-value)
 
 -- ── By the word ──
 
-module _ (ws bs : List ℕ) (at : ℕ) where
-  pub ends-whole : length ws ≤ at → unread ≡ evaluatedFrom (lent bs) (readExpression ws (length bs) at)
-  ends-whole h = refused-whole bs (words-end h) refl
+module _ {ws : List ℕ} {v at : ℕ} (h : HasExpression ws v at) where
+  pub begins-in-words : at < length ws
+  begins-in-words = in-words (whole-stands h)
 
-  pub limit-whole : at < length ws → 16384 ≤ at → unread ≡ evaluatedFrom (lent bs) (readExpression ws (length bs) at)
-  limit-whole h l = refused-whole bs (too-many h l) refl
+  pub begin-fits : Fits w64 (at + 1)
+  begin-fits = next-fits (whole-stands h)
 
-  module _ {k u : ℕ} (h : at < length ws) (l : at < 16384) (e : k ≡ kind (getD ws at 0)) (d : u ≡ payload (getD ws at 0)) where
-    pub constant-at : {z : ℤ} → k ≡ 7 → u < 16384 → z ≡ signed (getD ws at 0 % 16384) → valued (some z) (at + 1) ≡ evaluatedFrom (lent bs) (readExpression ws (length bs) at)
-    constant-at s j f = constant-whole bs (constant-read h l e d s j f) refl refl
+  pub variable-there : {k u : ℕ} → k ≡ kind (getD ws at 0) → u ≡ payload (getD ws at 0) → k ≡ 8 → u < v
+  variable-there e d i = in-range (whole-stands h) e d i
 
-    pub stray-at : k ≡ 7 → 16384 ≤ u → unread ≡ evaluatedFrom (lent bs) (readExpression ws (length bs) at)
-    stray-at s j = refused-whole bs (constant-stray h l e d s j) refl
+module _ (ws bs : List ℕ) (at : ℕ) (h : HasExpression ws (length bs) at) {k : ℕ} (e : k ≡ kind (getD ws at 0)) where
+  pub constant-at : {z : ℤ} → k ≡ 7 → z ≡ signed (getD ws at 0 % 16384) → valued (some z) (at + 1) ≡ evaluatedFrom (lent bs) (readExpression ws (length bs) at)
+  constant-at i f = whole {bs = bs} (constant {bs = bs} (whole-stands h) e refl i f refl)
 
-    pub missing-at : k ≡ 8 → length bs ≤ u → unread ≡ evaluatedFrom (lent bs) (readExpression ws (length bs) at)
-    missing-at s j = refused-whole bs (variable-missing h l e d s j) refl
+  module _ {u : ℕ} {n : Number} (d : u ≡ payload (getD ws at 0)) (i : k ≡ 8) (f : number n ≡ valueOf (getD bs u 0)) where
+    pub variable-at : {y z : ℤ} → n ≡ Some z → y ≡ z → valued (some y) (at + 1) ≡ evaluatedFrom (lent bs) (readExpression ws (length bs) at)
+    variable-at g j = value {bs = bs} (variable {bs = bs} (whole-stands h) e d i f) g j
 
-    pub variable-at : {v : Number} {y z : ℤ} → k ≡ 8 → u < length bs → number v ≡ valueOf (getD bs u 0) → v ≡ Some z → y ≡ z → valued (some y) (at + 1) ≡ evaluatedFrom (lent bs) (readExpression ws (length bs) at)
-    variable-at s j f g i = variable-value bs (variable-read h l e d s j) refl f g i
+    pub unbound-at : n ≡ None → valued none (at + 1) ≡ evaluatedFrom (lent bs) (readExpression ws (length bs) at)
+    unbound-at g = no-value {bs = bs} (variable {bs = bs} (whole-stands h) e d i f) g
 
-    pub unbound-at : {v : Number} → k ≡ 8 → u < length bs → number v ≡ valueOf (getD bs u 0) → v ≡ None → valued none (at + 1) ≡ evaluatedFrom (lent bs) (readExpression ws (length bs) at)
-    unbound-at s j f g = variable-none bs (variable-read h l e d s j) refl f g
-
-pub ruleset alone = (needs, ends-whole, limit-whole, constant-at, stray-at, missing-at, variable-at, unbound-at)
+pub ruleset alone = (needs, begins-in-words, begin-fits, variable-there, constant-at, variable-at, unbound-at)

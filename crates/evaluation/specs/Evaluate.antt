@@ -1,4 +1,4 @@
--- An expression evaluated where it stands: the value of its tree under a binding of lent words.
+-- An expression evaluated where it stands: the value of its tree under a binding of lent words. That it stands there is a fact of an accepted net.
 -- Rests on semantics/specs/ReadNet, numbers/specs/Number and expression/specs/Head.
 use mathlib.Core.Path.{_≡_}
 use mathlib.Core.Bool.{_&&_}
@@ -15,9 +15,8 @@ use Rattle.semantics.specs.ReadNet.{binaryHead, loadHead, operands, expressionI
 use Rattle.word.specs.Operator.{operatorOf}
 use Rattle.numbers.specs.Number.{number}
 use Rattle.evaluation.specs.declared.evaluate.Evaluated.{Evaluated}
-use Rattle.evaluation.specs.declared.evaluate.Evaluated.the-variants.{Value, NoValue, Nothing}
+use Rattle.evaluation.specs.declared.evaluate.Evaluated.the-variants.{Value, NoValue}
 use Rattle.evaluation.specs.declared.evaluate.Outcome.{Outcome}
-use Rattle.evaluation.specs.declared.evaluate.Outcome.the-variants.{Gives, Nothing as Unread}
 use Rattle.expression.specs.Head.{Onward}
 
 -- "VALUE: 0-13 value": the value of a VALUE word
@@ -36,7 +35,6 @@ pub data Valuation : Type 0 where
 abbrev pub evaluated : Evaluated → Valuation
 evaluated (Value z next) = valued (some z) next
 evaluated (NoValue next) = valued none next
-evaluated Nothing = unread
 
 -- the value of what is read
 abbrev pub evaluatedFrom : Environment → Reading Expression → Valuation
@@ -45,25 +43,39 @@ evaluatedFrom env (refused n p) = unread
 
 -- ── With the words left ──
 
-abbrev pub outcome : Outcome → Valuation
-outcome (Gives x next rest) = valued (number x) next
-outcome Unread = unread
+-- an expression of at most so many words stands at a position
+pub record Stands (ws : List ℕ) (v at left : ℕ) : Type 0 where
+  pub rounds : ℕ
+  pub enough : left < rounds
+  pub tree : Expression
+  pub next : ℕ
+  pub reads : expressionIn rounds ws v (at + left) at ≡ read tree next
 
-abbrev pub OutcomeOnward : List ℕ → ℕ → ℕ → Outcome → Type 0
-OutcomeOnward ws at left (Gives x next rest) = Onward ws at left next rest
-OutcomeOnward ws at left Unread = Unit {0}
+-- two of them, one after the other
+pub record StandTwo (ws : List ℕ) (v at left : ℕ) : Type 0 where
+  pub rounds : ℕ
+  pub enough : left < rounds
+  pub first : Expression
+  pub mid : ℕ
+  pub second : Expression
+  pub next : ℕ
+  pub reads-first : expressionIn rounds ws v (at + left) at ≡ read first mid
+  pub reads-second : expressionIn rounds ws v (at + left) mid ≡ read second next
+
+abbrev pub outcome : Outcome → Valuation
+outcome r = valued (number (r .value)) (r .next)
 
 -- the value of the reading by any number of rounds above the words left
 pub record IsOutcome (ws bs : List ℕ) (at left : ℕ) (r : Outcome) : Type 0 where
   pub same : (rounds stop : ℕ) → left < rounds → at + left ≡ stop → outcome r ≡ evaluatedFrom (lent bs) (expressionIn rounds ws (length bs) stop at)
-  pub onward : OutcomeOnward ws at left r
+  pub onward : Onward ws at left (r .next) (r .left)
 
 -- the same of what follows an operator: two operands
 pub record IsTwo (ws bs : List ℕ) (k at left : ℕ) (r : Outcome) : Type 0 where
   pub same : (rounds stop : ℕ) → left < rounds → at + left ≡ stop → outcome r ≡ evaluatedFrom (lent bs) (operands (expressionIn rounds ws (length bs) stop) (binaryHead (operatorOf k)) at)
-  pub onward : OutcomeOnward ws at left r
+  pub onward : Onward ws at left (r .next) (r .left)
 
 -- and of what follows a load: one
 pub record IsLoaded (ws bs : List ℕ) (at left : ℕ) (r : Outcome) : Type 0 where
   pub same : (rounds stop : ℕ) → left < rounds → at + left ≡ stop → outcome r ≡ evaluatedFrom (lent bs) (operands (expressionIn rounds ws (length bs) stop) loadHead at)
-  pub onward : OutcomeOnward ws at left r
+  pub onward : Onward ws at left (r .next) (r .left)

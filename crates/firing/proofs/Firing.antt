@@ -14,7 +14,7 @@ use lib.Seq.{length-take-le}
 use Rattle.semantics.specs.declared.Fired.{Fired}
 use Rattle.semantics.specs.declared.Fired.the-variants.{Refused as FireRefused}
 use Rattle.semantics.specs.Refusal.{mostCount, notEnabled, badOutput, overCount}
-use Rattle.semantics.specs.Lists.{every, select}
+use Rattle.semantics.specs.Lists.{Every, every, select}
 use Rattle.semantics.specs.Expression.{houseTable, bound, given}
 use Rattle.semantics.specs.Reading.{read}
 use Rattle.semantics.specs.Net.{Place, Arc}
@@ -28,6 +28,8 @@ use Rattle.semantics.proofs.Markings.{step-proper}
 use Rattle.semantics.proofs.Step.{Limited, within-all, all-within, occurs-step}
 use Rattle.semantics.proofs.Members.{none-some}
 use Rattle.net.specs.Places.{PlacesFit}
+use Rattle.net.specs.Standing.{HasConjunct, HasArc}
+use Rattle.net.proofs.Standing.{inputs-stand, outputs-stand, conjuncts-stand}
 use Rattle.marking.specs.Marked.{markingRead}
 use Rattle.marking.proofs.Counted.{marking-counts}
 use Rattle.arcs.specs.declared.gather.Gathered.{Gathered}
@@ -85,6 +87,17 @@ effect-keys : (m : Counts) (ws ps : List ℕ) (fs gs : List Flow) (ik ia ok oa :
 effect-keys m ws ps fs gs ik ia ok oa e f = fun-ext (λ p. fun-ext (λ c. rw (← e, ← f, total-moving fs p c, total-moving gs p c)))
 
 module _ {ws ps gs is os ms begins bs : List ℕ} (q : FireableAt ws ps gs is os ms begins bs) where
+  -- ── The conjuncts and arcs of the transition stand at their positions ──
+
+  pub fireable-guard : Every (HasConjunct ws (length bs)) gs
+  fireable-guard = conjuncts-stand ws (q .net .places) (q .at) (q .transition) (q .after) (q .there) (length bs) (q .many) (q .guard-at)
+
+  pub fireable-inputs : Every (HasArc ws ps (length bs)) is
+  fireable-inputs = inputs-stand ws (q .net .places) (q .at) (q .transition) (q .after) (q .there) (length bs) (q .many) ps (q .placed) (q .inputs-at)
+
+  pub fireable-outputs : Every (HasArc ws ps (length bs)) os
+  fireable-outputs = outputs-stand ws (q .net .places) (q .at) (q .transition) (q .after) (q .there) (length bs) (q .many) ps (q .placed) (q .outputs-at)
+
   -- ── The flows of the transition ──
 
   inputs-are : flowsAt ws ps bs is ≡ flows houseTable (bound (q .binding)) (q .transition .inputs)

@@ -15,6 +15,7 @@ use Rattle.semantics.specs.Lists.{Every}
 use Rattle.semantics.specs.Marking.{Entry, countsOf}
 use Rattle.semantics.specs.Run.{fire}
 use Rattle.semantics.specs.Calls.{firedBy}
+use Rattle.word.specs.Fields.{IsValue}
 use Rattle.evaluation.specs.Evaluate.{lent}
 use Rattle.net.specs.Skim.{outline}
 use Rattle.net.specs.Places.{placesAt}
@@ -42,6 +43,7 @@ pub record FireableAt (ws ps gs is os ms begins bs : List ℕ) : Type 0 where
   pub begun : Begins entries begins
   pub many : length bs ≡ length (transition .variables)
   pub values : lent bs ≡ bound binding
+  pub words : Every IsValue bs
 
 -- the answer, and the buffer after it
 pub record IsFiredAt (ws ps gs is os ms begins bs buffer : List ℕ) (r : Fired) (after : List ℕ) : Type 0 where

@@ -1,5 +1,5 @@
--- The rules of a conjunct and of the loop over a guard. A conjunct: one rule for each arm of the code. The loop: the conjuncts ahead hold
--- just where all did at first.
+-- The rules of a conjunct and of the loop over a guard. A conjunct: one rule for each arm of the code, its sides standing one after the other. The loop: the
+-- conjuncts ahead hold just where all did at first.
 use mathlib.Core.Path.{_≡_, refl}
 use Prim.Native.Nat.{ℕ, _+_, _≤_, _<_}
 use mathlib.Core.Bool.{Bool, true, false, _&&_}
@@ -7,58 +7,63 @@ use mathlib.Core.List.{List}
 use mathlib.Core.Option.{none, some}
 use native.Mathlib.Numerals.{add-one}
 use native.Mathlib.Omega.{arith}
+use borrow.Author.Needs.{needs}
+use mir.Syntax.{w64}
+use mir.Val.{Fits}
 use lib.IntN.{ℤ}
 use lib.ListN.{length, getD, drop, drop-of-length-le}
 use lib.Seq.{drop-cons}
-use Rattle.semantics.specs.Word.{only}
-use Rattle.semantics.specs.Expression.{Expression}
-use Rattle.semantics.specs.Reading.{Reading, read, refused, then, word}
+use Rattle.semantics.specs.Lists.{Every}
+use Rattle.semantics.specs.Word.{payload}
+use Rattle.semantics.specs.Expression.{houseTable, value}
+use Rattle.semantics.specs.Reading.{read}
 use Rattle.semantics.specs.ReadNet.{readExpression, relationOf, readConjunct}
 use Rattle.semantics.specs.Enabling.{related, holds}
-use Rattle.evaluation.specs.Evaluate.{lent}
-use Rattle.kinds.specs.declared.take.Taken.{Taken}
-use Rattle.kinds.specs.declared.take.Taken.the-variants.{Word, Refused}
-use Rattle.kinds.specs.Taken.{fitsKind, taken, IsTaken}
-use Rattle.net.proofs.Structures.{word-told}
+use Rattle.semantics.proofs.Members.{every-number}
+use Rattle.expression.specs.Standing.{HasExpression}
+use Rattle.evaluation.specs.declared.evaluate.Evaluated.{Evaluated}
+use Rattle.evaluation.specs.declared.evaluate.Evaluated.the-variants.{Value, NoValue}
+use Rattle.evaluation.specs.Evaluate.{lent, evaluated, evaluatedFrom}
+use Rattle.net.specs.Standing.{HasConjunct}
+use Rattle.net.proofs.Standing.{sides, left-stands, right-stands, left-inside}
 use Rattle.guards.specs.Guard.{conjunctHolds, guardAt}
-use Rattle.evaluation.proofs.Answers.{Valued, Unread}
+use Rattle.evaluation.proofs.Answers.{read-value, read-no-value}
 
 -- ── A conjunct ──
 
-module _ (ws bs : List ℕ) (at : ℕ) {t : Taken} (w : IsTaken ws at 6 t) where
-  conjunct-word : {u : Taken} → t ≡ u → word ws 6 (λ k. only 2 k) at ≡ taken at u
-  unfolding fitsKind
-  conjunct-word e = word-told w e
+module _ (ws bs : List ℕ) (at : ℕ) (h : HasConjunct ws (length bs) at) where
+  pub conjunct-inside : at < length ws
+  conjunct-inside = sides h .inside
 
-  pub conjunct-refused : {m s : ℕ} → t ≡ Refused m s → false ≡ conjunctHolds (lent bs) (readConjunct ws (length bs) at)
-  unfolding readConjunct
-  conjunct-refused e = rw (conjunct-word e)
+  pub left-fits : Fits w64 (at + 1)
+  left-fits = let l = left-inside h .1 in record { fits = omega arith }
 
-  module _ {p : ℕ} (e : t ≡ Word p) where
-    pub left-unread : Unread ws bs (at + 1) → false ≡ conjunctHolds (lent bs) (readConjunct ws (length bs) at)
-    unfolding readConjunct
-    left-unread u = rw (conjunct-word e, u .reads)
+  module _ {r : Evaluated} (e : evaluated r ≡ evaluatedFrom (lent bs) (readExpression ws (length bs) (at + 1))) where
+    pub left-none : {p : ℕ} → r ≡ NoValue p → false ≡ conjunctHolds (lent bs) (readConjunct ws (length bs) at)
+    unfolding holds
+    left-none d = rw (h .reads, read-no-value ws (length bs) (at + 1) (sides h .left) bs refl r e d .0)
 
-    pub left-none : {n : ℕ} → Valued ws bs (at + 1) none n → false ≡ conjunctHolds (lent bs) (readConjunct ws (length bs) at)
-    unfolding readConjunct holds
-    left-none {n} v = rw (conjunct-word e, v .reads) (by (readExpression ws (length bs) n))
-      where
-        by : (x : Reading Expression) → false ≡ conjunctHolds (lent bs) (then x (λ b m. read (record { position = at; relation = relationOf p; left = v .tree; right = b }) m))
-        by (read b m) = rw (v .same)
-        by (refused m q) = refl
+    module _ {x : ℤ} {mid : ℕ} (d : r ≡ Value x mid) where
+      left-value : (value houseTable (lent bs) (h .conjunct .left) ≡ some x) × (mid ≡ sides h .mid)
+      left-value = read-value ws (length bs) (at + 1) (sides h .left) bs refl r e d
 
-    module _ {x : ℤ} {mid : ℕ} (v : Valued ws bs (at + 1) (some x) mid) where
-      pub right-unread : Unread ws bs mid → false ≡ conjunctHolds (lent bs) (readConjunct ws (length bs) at)
-      unfolding readConjunct
-      right-unread u = rw (conjunct-word e, v .reads, u .reads)
+      -- the right side stands where the left one ends
+      pub right-there : HasExpression ws (length bs) mid
+      right-there = rw (left-value .1) (right-stands h)
 
-      pub right-none : {n : ℕ} → Valued ws bs mid none n → false ≡ conjunctHolds (lent bs) (readConjunct ws (length bs) at)
-      unfolding readConjunct holds
-      right-none u = rw (conjunct-word e, v .reads, u .reads, v .same, u .same)
+      right : readExpression ws (length bs) mid ≡ read (h .conjunct .right) (sides h .next)
+      right = rw (left-value .1) (sides h .right)
 
-      pub both-values : {y : ℤ} {n : ℕ} → Valued ws bs mid (some y) n → {b : Bool} → b ≡ related (relationOf p) x y → b ≡ conjunctHolds (lent bs) (readConjunct ws (length bs) at)
-      unfolding readConjunct holds
-      both-values u f = rw (conjunct-word e, v .reads, u .reads, v .same, u .same) f
+      module _ {q : Evaluated} (f : evaluated q ≡ evaluatedFrom (lent bs) (readExpression ws (length bs) mid)) where
+        pub right-none : {p : ℕ} → q ≡ NoValue p → false ≡ conjunctHolds (lent bs) (readConjunct ws (length bs) at)
+        unfolding holds
+        right-none i = rw (h .reads, left-value .0, read-no-value ws (length bs) mid right bs refl q f i .0)
+
+        pub both-values : {y x′ y′ : ℤ} {p k : ℕ} {b : Bool} → q ≡ Value y p → k ≡ payload (getD ws at 0) → b ≡ related (relationOf k) x′ y′ → x′ ≡ x → y′ ≡ y → b ≡ conjunctHolds (lent bs) (readConjunct ws (length bs) at)
+        unfolding holds
+        both-values i k g m n = rw (h .reads, left-value .0, read-value ws (length bs) mid right bs refl q f i .0, sides h .relation, ← k, ← m, ← n) g
+
+pub ruleset conjuncts = (needs, conjunct-inside, left-fits, left-stands, left-none, right-there, right-none, both-values)
 
 -- ── A guard ──
 
@@ -66,6 +71,10 @@ module _ (ws bs : List ℕ) (at : ℕ) {t : Taken} (w : IsTaken ws at 6 t) where
 pub record Guarding (ws bs ats : List ℕ) (i : ℕ) : Type 0 where
   pub inside : i ≤ length ats
   pub same : guardAt ws bs (drop i ats) ≡ guardAt ws bs ats
+
+-- a conjunct stands at each position
+pub conjunct-there : (ws ats : List ℕ) (v i : ℕ) → Every (HasConjunct ws v) ats → i < length ats → HasConjunct ws v (getD ats i 0)
+conjunct-there ws ats v i e h = every-number (HasConjunct ws v) ats i 0 e h
 
 pub guarding-start : (ws bs ats : List ℕ) → Guarding ws bs ats 0
 guarding-start ws bs ats = record { inside = omega arith; same = refl }

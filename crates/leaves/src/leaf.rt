@@ -7,7 +7,8 @@ ghost use Prim.Native.Nat.{_≤_};
 ghost use lib.ListN.{length};
 ghost use Rattle.semantics.specs.Lists.{Every};
 ghost use Rattle.net.specs.Places.{PlacesFit};
-ghost use Rattle.rows.specs.Rows.{IsValue};
+ghost use Rattle.net.specs.Standing.{HasConjunct, HasArc};
+ghost use Rattle.word.specs.Fields.{IsValue};
 ghost use Rattle.leaves.specs.Leaf.{Held, IsLeaf};
 
 // Once a row had no room the rows no longer matter, and only tries are counted.
@@ -26,6 +27,8 @@ pub fn leaf(
     requires { ⌜ PlacesFit (now net) (now places) ⌝ }
     requires { ⌜ length (now begins) ≡ 65 ⌝ }
     requires { ⌜ length (now inputs) ≤ 8 ⌝ }
+    requires { ⌜ Every (HasConjunct (now net) (length (now binding))) (now conjuncts) ⌝ }
+    requires { ⌜ Every (HasArc (now net) (now places) (length (now binding))) (now inputs) ⌝ }
     requires { ⌜ Every IsValue (now binding) ⌝ }
     requires { ⌜ Held (length (now binding)) most (s .rows) (now menu) ⌝ }
     ensures { λ r. ⌜ IsLeaf (now (net .entry)) (now (places .entry)) (now (conjuncts .entry)) (now (inputs .entry)) (now (marking .entry)) (now (begins .entry)) most (now (binding .entry)) s (now (menu .entry)) r (now (menu .exit)) ⌝ }

@@ -1,6 +1,7 @@
 pub mod Skimming
 pub mod Located
 pub mod Placed
+pub mod Standing
 pub mod Loops
 pub mod Structures
 pub mod Transitions

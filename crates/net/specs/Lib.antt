@@ -1,4 +1,5 @@
 pub mod Skim
 pub mod Index
 pub mod Places
+pub mod Standing
 pub mod Parted

@@ -6,10 +6,13 @@ use guards::guard::guard_holds;
 ghost use mathlib.Core.Path.{_≡_};
 ghost use Prim.Native.Nat.{_≤_};
 ghost use lib.ListN.{length};
+ghost use Rattle.semantics.specs.Lists.{Every};
+ghost use Rattle.word.specs.Fields.{IsValue};
 ghost use Rattle.net.specs.Places.{PlacesFit};
+ghost use Rattle.net.specs.Standing.{HasConjunct, HasArc};
 ghost use Rattle.occurrence.specs.Answers.{IsTaken, IsEnabledAt};
 
-// What the input arcs at some positions take, as keys and amounts, where the conjuncts at others hold and the marking covers it: none exactly where
+// What the input arcs that stand at some positions take, as keys and amounts, where the conjuncts that stand at others hold and the marking covers it: none exactly where
 // the binding is not enabled.
 pub fn taken(
     net: &[u32],
@@ -26,6 +29,9 @@ pub fn taken(
     requires { ⌜ length (now begins) ≡ 65 ⌝ }
     requires { ⌜ length (now inputs) ≤ 8 ⌝ }
     requires { ⌜ (length (now keys) ≡ 8) × (length (now amounts) ≡ 8) ⌝ }
+    requires { ⌜ Every (HasConjunct (now net) (length (now binding))) (now conjuncts) ⌝ }
+    requires { ⌜ Every (HasArc (now net) (now places) (length (now binding))) (now inputs) ⌝ }
+    requires { ⌜ Every IsValue (now binding) ⌝ }
     ensures { λ r. ⌜ IsTaken (now (net .entry)) (now (places .entry)) (now (conjuncts .entry)) (now (inputs .entry)) (now (marking .entry)) (now (begins .entry)) (now (binding .entry)) r (now (keys .exit)) (now (amounts .exit)) ⌝ }
 {
     let none = Gathered { some: false, n: 0 };
@@ -56,6 +62,9 @@ pub fn is_enabled(
     requires { ⌜ PlacesFit (now net) (now places) ⌝ }
     requires { ⌜ length (now begins) ≡ 65 ⌝ }
     requires { ⌜ length (now inputs) ≤ 8 ⌝ }
+    requires { ⌜ Every (HasConjunct (now net) (length (now binding))) (now conjuncts) ⌝ }
+    requires { ⌜ Every (HasArc (now net) (now places) (length (now binding))) (now inputs) ⌝ }
+    requires { ⌜ Every IsValue (now binding) ⌝ }
     ensures { λ r. ⌜ IsEnabledAt (now (net .entry)) (now (places .entry)) (now (conjuncts .entry)) (now (inputs .entry)) (now (marking .entry)) (now (begins .entry)) (now (binding .entry)) r ⌝ }
 {
     let mut keys = [0u64; 8];

@@ -23,8 +23,8 @@ use Rattle.semantics.specs.Marking.{countsOf}
 use Rattle.semantics.specs.Enabling.{isEnabled}
 use Rattle.semantics.specs.Tries.{Partial, partly, coloursOn, matched, tries}
 use Rattle.semantics.specs.Calls.{Situation}
-use Rattle.semantics.proofs.Tests.{either, Every-at, selected}
-use Rattle.semantics.proofs.Members.{at-length, at-member, number-member, length-at, map-elem}
+use Rattle.semantics.proofs.Tests.{either, selected}
+use Rattle.semantics.proofs.Members.{number-member, length-at}
 use Rattle.semantics.proofs.Tuples.{tuples-in}
 use Rattle.semantics.proofs.Partial.{range-length}
 use Rattle.semantics.proofs.Spans.{then-read, word-read, drop-first}
@@ -111,6 +111,12 @@ module _ {A : Type 0} (P : A → Type 0) where
   every-without (x ∷ xs) zero f = every-number xs (λ j y h. f (suc j) y h (λ e. absurd (omega arith)))
   every-without (x ∷ xs) (suc k) f = (f zero x refl (λ e. absurd (omega arith)), every-without xs k (λ j y h n. f (suc j) y h (λ e. n (omega arith))))
 
+  pub every-but : (l : List A) (k : ℕ) → Every P l → Every P (without l k)
+  unfolding without
+  every-but [] k h = tt
+  every-but (x ∷ xs) zero h = h .1
+  every-but (x ∷ xs) (suc k) h = (h .0, every-but xs k (h .1))
+
 -- ── A leaf behind a match ──
 
 module _ {ws ps : List ℕ} {position v : ℕ} {inputs conjuncts elements ms begins : List ℕ} {s : Situation} (W : World ws ps position v inputs conjuncts elements ms begins s) where
@@ -170,7 +176,7 @@ module _ {ws ps : List ℕ} {position v : ℕ} {inputs conjuncts elements ms beg
       let t = s .transition in
       let pieces = transition-parts ws (s .net .places) position t (W .after) (W .there) in
       let i : tested ≡ map (λ (a : Arc). a .position) (without (t .inputs) k) = e ∙ ap (λ (x : List ℕ). without x k) (W .arcs) ∙ without-map (λ (a : Arc). a .position) (t .inputs) k in
-      let at : Every (At (readArc ws (s .net .places) (length (t .variables))) (λ (a : Arc). a .position)) (without (t .inputs) k) = every-without _ (t .inputs) k (λ j x h n. Every-at (At (readArc ws (s .net .places) (length (t .variables))) (λ (a : Arc). a .position)) (pieces .inputs) (at-member (t .inputs) j x h)) in
+      let at : Every (At (readArc ws (s .net .places) (length (t .variables))) (λ (a : Arc). a .position)) (without (t .inputs) k) = every-but _ (t .inputs) k (pieces .inputs) in
       rw (W .counted) (f .enabled (s .net .places) (W .placed) (W .entries) (W .end) (W .marked) (W .begun) ∙ rw (W .guards, i, guard-told ws bs (s .net .places) position t (W .after) (W .there) (l ∙ W .many), arcs-told ws bs (length (t .variables)) (l ∙ W .many) ps (s .net .places) (W .placed) (without (t .inputs) k) at, u))
 
   module _ {e : CodeElement} {b parts known : List ℕ} {step : Step} (A : IsArrival ws ps position v inputs conjuncts ms begins e b parts known step) {k : ℕ} (sp : IsSpare ws inputs (step .element) parts (step .width) k) (q : Partial) (zs : List ℤ) (full : q ≡ map some zs) (l : length (partialOf v b) ≡ length (s .transition .variables)) (i : ℕ) (h : i < length (tries houseTable (s .net) (s .transition) (s .counts) (sorted (step .element .sort)) (partialOf v b))) (on : getD (tries houseTable (s .net) (s .transition) (s .counts) (sorted (step .element .sort)) (partialOf v b)) i none ≡ some q) where

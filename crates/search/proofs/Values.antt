@@ -22,7 +22,8 @@ use Rattle.semantics.proofs.Words.{value-again}
 use Rattle.evaluation.specs.Evaluate.{valueOf, lent}
 use Rattle.occurrence.specs.Answers.{IsEnabledAt}
 use Rattle.occurrence.proofs.Reading.{enabled-told}
-use Rattle.rows.specs.Rows.{valuesOfWords, IsValue}
+use Rattle.word.specs.Fields.{IsValue}
+use Rattle.rows.specs.Rows.{valuesOfWords}
 use Rattle.tries.specs.Partial.{partialOf}
 use Rattle.arrivals.specs.World.{World}
 use Rattle.tries.proofs.Slots.{slots-lent}

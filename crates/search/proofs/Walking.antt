@@ -27,7 +27,10 @@ use Rattle.spares.specs.Spare.{without, IsSpare}
 use Rattle.occurrence.specs.Answers.{IsEnabledAt}
 use Rattle.elements.specs.declared.element.Element.{Element as CodeElement}
 use Rattle.elements.specs.Bound.{sorted}
-use Rattle.rows.specs.Rows.{valuesOfWords, IsValue, Listing, listingOf}
+use Rattle.word.specs.Fields.{IsValue}
+use Rattle.net.specs.Standing.{HasConjunct, HasArc}
+use Rattle.net.proofs.Standing.{inputs-stand, conjuncts-stand}
+use Rattle.rows.specs.Rows.{valuesOfWords, Listing, listingOf}
 use Rattle.arrivals.specs.declared.step.Step.{Step}
 use Rattle.tries.specs.Partial.{partialOf, IsTried, IsSaved}
 use Rattle.arrivals.specs.Step.{Noted, Safe, Ready, triesBy, IsArrival}
@@ -39,7 +42,7 @@ use Rattle.leaves.specs.Leaf.{Held, Unspent, Ended, IsLeaf}
 use Rattle.search.proofs.Trying.{rowsOver}
 use Rattle.search.proofs.Worlds.{few-inputs, next-element, as-many}
 use Rattle.search.proofs.Values.{slots-values, full-lent, enabled-full}
-use Rattle.search.proofs.Sparing.{told-without, told-spared}
+use Rattle.search.proofs.Sparing.{every-but, told-without, told-spared}
 use Rattle.search.proofs.Steps.{cost-step, rows-step, cost-leaf, rows-leaf}
 
 -- the same, of costs and rows that are equal
@@ -84,9 +87,19 @@ module _ {ws ps : List ℕ} {position v : ℕ} {inputs conjuncts elements ms beg
       leaf-values : Every IsValue b
       leaf-values = subst (Every IsValue) all (slots-values (take v b) (full .0) (full .1) .1)
 
+      leaf-conjuncts : Every (HasConjunct ws (length b)) conjuncts
+      leaf-conjuncts = conjuncts-stand ws (s .net .places) position (s .transition) (W .after) (W .there) (length b) (l ∙ W .many) (W .guards)
+
+      -- the input arcs of the transition stand at their positions, and so do all of them but one
+      pub leaf-inputs : Every (HasArc ws ps (length b)) inputs
+      leaf-inputs = inputs-stand ws (s .net .places) position (s .transition) (W .after) (W .there) (length b) (l ∙ W .many) ps (W .placed) (W .arcs)
+
+      pub leaf-others : (k : ℕ) {tested : List ℕ} → tested ≡ without inputs k → Every (HasArc ws ps (length b)) tested
+      leaf-others k e = subst (Every (HasArc ws ps (length b))) (sym e) (every-but (HasArc ws ps (length b)) inputs k leaf-inputs)
+
       -- what a leaf asks for, to look up some arcs
-      pub leaf-handed : (tested : List ℕ) {most n : ℕ} {m : List ℕ} → length tested ≤ 8 → Held v most n m → PlacesFit ws ps × ((length begins ≡ 65) × ((length tested ≤ 8) × (Every IsValue b × Held (length b) most n m)))
-      leaf-handed tested {most} {n} {m} f k = (W .fits, (W .beginnings, (f, (leaf-values, subst (λ (j : ℕ). Held j most n m) (sym l) k))))
+      pub leaf-handed : (tested : List ℕ) {most n : ℕ} {m : List ℕ} → length tested ≤ 8 → Every (HasArc ws ps (length b)) tested → Held v most n m → PlacesFit ws ps × ((length begins ≡ 65) × ((length tested ≤ 8) × (Every (HasConjunct ws (length b)) conjuncts × (Every (HasArc ws ps (length b)) tested × (Every IsValue b × Held (length b) most n m)))))
+      leaf-handed tested {most} {n} {m} f a k = (W .fits, (W .beginnings, (f, (leaf-conjuncts, (a, (leaf-values, subst (λ (j : ℕ). Held j most n m) (sym l) k))))))
 
       -- a leaf that looks up arcs by which it is told whether its binding is enabled
       leaf-ended : {tested : List ℕ} {most budget : ℕ} {c : Progress} {m : List ℕ} {r : Progress} {m′ : List ℕ} → ((q : Bool) → IsEnabledAt ws ps conjuncts tested ms begins (take v b) q → q ≡ isEnabled houseTable (s .transition) (s .counts) (full .0)) → Unspent budget c → IsLeaf ws ps conjuncts tested ms begins most b c m r m′ → Ended v most budget (c .rows) m (c .tries) (listingOf v (c .rows) (c .full) m) (costFrom s (drop d (s .transition .plan)) (partialOf v b)) (rowsFrom s (drop d (s .transition .plan)) (partialOf v b)) r m′

@@ -12,31 +12,31 @@ use lib.Dec.{eqb}
 use lib.IntN.{ℤ}
 use lib.ListN.{length, take, getD, getElem?}
 use lib.Seq.{length-take-le, take-all}
-use Rattle.semantics.specs.Refusal.{mostWords}
 use Rattle.semantics.specs.Word.{kind, payload, Range}
 use Rattle.semantics.specs.Expression.{Environment, Expression, constant, variable, binary, load, houseTable, value, everyVariable}
 use Rattle.semantics.specs.Reading.{Reading, read}
 use Rattle.semantics.specs.Net.{Conjunct}
-use Rattle.semantics.specs.ReadNet.{readExpression, readConjunct}
+use Rattle.semantics.specs.ReadNet.{readExpression}
 use Rattle.semantics.specs.Plan.{Solution, eitherSide, solution}
 use Rattle.semantics.specs.Tries.{Partial, partly, present, isBoundIn, bindNew}
-use Rattle.semantics.proofs.Tests.{false-true}
-use Rattle.semantics.proofs.Readers.{Gives, gives, given, then-gives, as-read}
+use Rattle.semantics.proofs.Readers.{given}
 use Rattle.semantics.proofs.Accepted.{SoundExpression, expression-reads}
 use Rattle.semantics.proofs.Fitness.{Solves, solution-solves}
 use Rattle.numbers.specs.declared.number.Number.{Number}
 use Rattle.numbers.specs.declared.number.Number.the-variants.{Some, None}
 use Rattle.numbers.specs.Number.{number}
 use Rattle.evaluation.specs.declared.evaluate.Evaluated.{Evaluated}
-use Rattle.evaluation.specs.declared.evaluate.Evaluated.the-variants.{Value, NoValue, Nothing}
+use Rattle.evaluation.specs.declared.evaluate.Evaluated.the-variants.{Value, NoValue}
 use Rattle.evaluation.specs.Evaluate.{valueOf, lent, evaluated, evaluatedFrom}
 use Rattle.expression.proofs.Spelled.{HeadWord, headOfTree}
-use Rattle.expression.proofs.Laws.{expression-short, first-word, variable-alone}
-use Rattle.evaluation.proofs.Answers.{read-evaluates, read-value, read-no-value}
-use Rattle.net.proofs.Placed.{word-here}
+use Rattle.expression.proofs.Laws.{first-word, variable-alone}
+use Rattle.evaluation.proofs.Answers.{read-value, read-no-value}
+use Rattle.expression.specs.Standing.{HasExpression}
+use Rattle.net.specs.Standing.{HasConjunct}
+use Rattle.net.proofs.Standing.{sides, right-stands, right-inside}
 use Rattle.solving.specs.declared.solve.Lone.the-variants.{Unbound, Nothing as NotLone}
 use Rattle.tries.specs.Partial.{partialOf, boundBy}
-use Rattle.solving.specs.Solve.{valueIn, valueFor, IsLone, boundAt, unboundAlone, alone, sideOf, solvedBy, solvedFrom, solvedAt, HasConjunct}
+use Rattle.solving.specs.Solve.{valueIn, valueFor, IsLone, boundAt, unboundAlone, alone, sideOf, solvedBy, solvedFrom, solvedAt}
 use Rattle.tries.proofs.Slots.{slots-lent, slot-read}
 
 -- ── A slot that is looked at ──
@@ -51,6 +51,9 @@ module _ (v n : ℕ) (b : List ℕ) (h : n < v) {r : Number} (e : number r ≡ v
 -- ── A value that may be missing ──
 
 -- slots as many as variables
+pub slots-stand : {ws : List ℕ} {v n at : ℕ} → n ≡ v → HasExpression ws v at → HasExpression ws n at
+slots-stand l h = rw l h
+
 pub all-slots : (ws b : List ℕ) (v at : ℕ) → length b ≡ v → (r : Evaluated) → evaluated r ≡ evaluatedFrom (lent b) (readExpression ws (length b) at) → evaluated r ≡ evaluatedFrom (lent (take v b)) (readExpression ws (length (take v b)) at)
 all-slots ws b v at l r e = rw (take-all v b (omega arith)) e
 
@@ -67,10 +70,6 @@ module _ (ws b : List ℕ) (v at : ℕ) (l : v ≤ length b) {r : Evaluated} (h 
     unfolding bind
     bound-none d = rw (told d)
 
-    pub bound-unread : r ≡ Nothing → none ≡ boundBy ranges (partialOf v b) n (valueFor ws v b at)
-    unfolding bind
-    bound-unread d = rw (told d)
-
 -- ── A word that is looked at ──
 
 module _ (ws : List ℕ) (ranges : List Range) (p : Partial) (at : ℕ) (z : ℤ) where
@@ -79,34 +78,6 @@ module _ (ws : List ℕ) (ranges : List Range) (p : Partial) (at : ℕ) (z : ℤ
 
   pub lone-bound : {n : ℕ} → kind (getD ws at 0) ≡ 8 → n ≡ payload (getD ws at 0) → {x : Option Partial} → x ≡ bindNew p n (getElem? ranges n) z → x ≡ boundAt ws ranges p at z
   lone-bound k e f = rw (k, ← e) f
-
--- ── A conjunct that is read ──
-
-pub record Sides (ws : List ℕ) (v at : ℕ) (c : Conjunct) : Type 0 where
-  pub mid : ℕ
-  pub next : ℕ
-  pub left : readExpression ws v (at + 1) ≡ read (c .left) mid
-  pub right : readExpression ws v mid ≡ read (c .right) next
-
-conjunct-sides : (ws : List ℕ) (v at : ℕ) → Gives (λ c next. Sides ws v at c) (readConjunct ws v at)
-unfolding readConjunct
-conjunct-sides ws v at =
-    then-gives (word-here ws 6 _ at) λ k start h.
-    then-gives (as-read (readExpression ws v start)) λ a mid p.
-    then-gives (as-read (readExpression ws v mid)) λ b next q.
-    gives (record { mid = mid; next = next; left = rw (h .0 .ends) at p; right = q })
-
-module _ {ws : List ℕ} {v at : ℕ} (h : HasConjunct ws v at) where
-  pub sides : Sides ws v at (h .conjunct)
-  sides = given (conjunct-sides ws v at) (h .reads)
-
-  -- the left side begins in the words
-  pub left-inside : (at + 1 < length ws) × (at + 2 ≤ mostWords)
-  left-inside = let s = expression-short ws v (at + 1) (sides .left) in (omega arith, omega arith)
-
-  -- so does the right one
-  pub right-inside : sides .mid < length ws
-  right-inside = let s = expression-short ws v (sides .mid) (sides .right) in omega arith
 
 -- ── Which side is solved for ──
 
@@ -155,6 +126,10 @@ module _ {ws : List ℕ} {v at : ℕ} (h : HasConjunct ws v at) (b : List ℕ) w
   settled : IsLone ws v b (at + 1) NotLone → unboundAlone (isBoundIn (partialOf v b)) (h .conjunct .left) ≡ none
   settled k = not-unbound v (getD ws (at + 1) 0) (partialOf v b) k (h .conjunct .left) (first-word ws v (at + 1) (sides h .left)) (given (expression-reads ws v (at + 1)) (sides h .left) .0)
 
+  -- behind an unbound variable alone stands the right side
+  pub behind-lone : {n : ℕ} → IsLone ws v b (at + 1) (Unbound n) → HasExpression ws v (at + 2)
+  behind-lone k = let m : sides h .mid ≡ at + 2 = variable-alone ws v (at + 1) (sides h .left) (k .0) .1 ∙ omega arith in rw (← m) (right-stands h)
+
   module _ (ranges : List Range) where
     answer : solvedBy ranges (partialOf v b) (h .conjunct) ≡ solvedAt ws ranges v (partialOf v b) at
     answer = sym (ap (solvedFrom ranges (partialOf v b)) (h .reads))
@@ -183,9 +158,6 @@ module _ {ws : List ℕ} {v at : ℕ} (h : HasConjunct ws v at) (b : List ℕ) w
 
       pub left-none : {q : ℕ} → r ≡ NoValue q → none ≡ solvedAt ws ranges v (partialOf v b) at
       left-none d = by-none ranges (partialOf v b) (h .conjunct) (settled k) (sym (same (h .conjunct .left)) ∙ read-no-value ws v (at + 1) (sides h .left) (take v b) (length-take-le v b l) r e d .0) ∙ answer
-
-      pub left-unread : r ≡ Nothing → none ≡ solvedAt ws ranges v (partialOf v b) at
-      left-unread d = let f = read-evaluates ws v (at + 1) (sides h .left) (take v b) (length-take-le v b l) r e in false-true (cc)
 
   -- the right side begins where the left one ends
   pub left-ends : v ≤ length b → {r : Evaluated} → evaluated r ≡ evaluatedFrom (lent (take v b)) (readExpression ws (length (take v b)) (at + 1)) → {z : ℤ} {q : ℕ} → r ≡ Value z q → q < length ws

@@ -66,9 +66,3 @@ solvedFrom ranges p (refused n q) = none
 -- the conjunct at a position
 abbrev pub solvedAt : List ℕ → List Range → ℕ → Partial → ℕ → Option Partial
 solvedAt ws ranges v p at = solvedFrom ranges p (readConjunct ws v at)
-
--- a conjunct stands at a position
-pub record HasConjunct (ws : List ℕ) (v at : ℕ) : Type 0 where
-  pub conjunct : Conjunct
-  pub next : ℕ
-  pub reads : readConjunct ws v at ≡ read conjunct next

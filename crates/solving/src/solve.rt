@@ -10,11 +10,13 @@ use word::fields::payload;
 ghost use mathlib.Core.Path.{_≡_};
 ghost use Prim.Native.Nat.{_≤_, _<_, _+_};
 ghost use lib.ListN.{length};
+ghost use Rattle.expression.specs.Standing.{HasExpression};
 ghost use Rattle.net.specs.Places.{rangesFrom};
+ghost use Rattle.net.specs.Standing.{HasConjunct};
 ghost use Rattle.tries.specs.Partial.{partialOf, boundBy, IsTried};
-ghost use Rattle.solving.specs.Solve.{valueFor, IsLone, boundAt, solvedAt, HasConjunct};
+ghost use Rattle.solving.specs.Solve.{valueFor, IsLone, boundAt, solvedAt};
 
-// A variable takes the value of the expression at a position, where it has one in the variable's range.
+// A variable takes the value of the expression that stands at a position, where it has one in the variable's range.
 fn bind_value(
     net: &[u32],
     ranges: usize,
@@ -24,12 +26,12 @@ fn bind_value(
     at: usize,
 ) -> bool
     requires { ⌜ (length (now slots) ≡ variables) × (ranges + variables ≤ length (now net)) ⌝ }
+    requires { ⌜ HasExpression (now net) variables at ⌝ }
     ensures { λ r. ⌜ IsTried variables (boundBy (rangesFrom (now (net .entry)) variables ranges) (partialOf variables (now (slots .entry))) n (valueFor (now (net .entry)) variables (now (slots .entry)) at)) (now (slots .entry)) r (now (slots .exit)) ⌝ }
 {
     match evaluate(net, slots, at) {
         Evaluated::Value(z, _) => bind_new(net, ranges, variables, slots, n, z),
         Evaluated::NoValue(_) => false,
-        Evaluated::Nothing => false,
     }
 }
 
@@ -89,7 +91,6 @@ pub fn solve_at(net: &[u32], ranges: usize, variables: usize, slots: &mut [u32],
         Lone::Nothing => match evaluate(net, slots, at + 1) {
             Evaluated::Value(z, right) => bind_lone(net, ranges, variables, slots, right, z),
             Evaluated::NoValue(_) => false,
-            Evaluated::Nothing => false,
         },
     }
 }

@@ -1,17 +1,20 @@
 -- The rules of test: what the situation and the binding say, then whether the binding is enabled; what was told from positions is what
 -- semantics says of the transition.
 use mathlib.Core.Path.{_≡_, sym, ap, _∙_}
-use Prim.Native.Nat.{ℕ, _+_, _≤_}
+use Prim.Native.Nat.{ℕ, _+_, _≤_, _<_}
 use mathlib.Core.Bool.{Bool}
 use mathlib.Core.List.{List}
 use lib.IntN.{ℤ}
+use lib.Signed.{mag}
 use lib.ListN.{length, take, drop, length-map}
 use Rattle.semantics.specs.declared.Tested.the-variants.{Refused as TestRefused}
+use Rattle.semantics.specs.Lists.{Every}
 use Rattle.semantics.specs.Word.{Range, valueWord}
 use Rattle.semantics.specs.Expression.{bound}
 use Rattle.semantics.specs.Reading.{read, refused}
 use Rattle.semantics.specs.Marking.{readBinding}
 use Rattle.semantics.specs.Calls.{yesOrNo, testCall}
+use Rattle.word.specs.Fields.{IsValue}
 use Rattle.expression.specs.declared.read.Skipped.{Skipped}
 use Rattle.expression.specs.declared.read.Skipped.the-variants.{Next, Refused}
 use Rattle.expression.specs.Skip.{forget, skipped}
@@ -19,13 +22,15 @@ use Rattle.expression.proofs.Laws.{passed-read, passed-refused}
 use Rattle.evaluation.specs.Evaluate.{lent}
 use Rattle.net.specs.Skim.{Outline}
 use Rattle.net.specs.Places.{rangesFrom}
+use Rattle.net.specs.Standing.{HasConjunct, HasArc}
+use Rattle.net.proofs.Standing.{inputs-stand, conjuncts-stand}
 use Rattle.net.proofs.Placed.{variables-placed, variables-fit}
 use Rattle.marking.specs.Marked.{bindingRead}
 use Rattle.semantics.proofs.Partial.{range-length}
 use Rattle.marking.proofs.Bound.{IsBinding, binding-read, ranged-small}
 use Rattle.occurrence.specs.Answers.{IsEnabledAt}
 use Rattle.situations.specs.Situation.{Index, outlined, Prepared, IsSituation}
-use Rattle.occurrence.proofs.Reading.{enabled-told, binding-lent}
+use Rattle.occurrence.proofs.Reading.{enabled-told, binding-lent, binding-values}
 
 pub test-refused : (ws : List ℕ) (t : ℕ) (ms bs : List ℕ) {s : Index} {n p : ℕ} → IsSituation ws t ms s → s .end ≡ Refused n p → TestRefused n p ≡ testCall ws t ms bs
 unfolding testCall
@@ -65,9 +70,22 @@ module _ {ws : List ℕ} {t : ℕ} {ms : List ℕ} {s : Index} (p : Prepared ws 
       pub bound-length : length bs ≡ length (p .transition .variables)
       bound-length = ap length (is-binding .words) ∙ length-map (bound-read .0) valueWord ∙ range-length (p .transition .variables) (bound-read .0) (is-binding .ranged)
 
-      -- the words of the binding say what the binding says
+      bound-small : Every (λ z. mag z < 8192) (bound-read .0)
+      bound-small = ranged-small ws (s .transition .variables) (s .position + 1) (bound-read .0) (rw variables-same (is-binding .ranged))
+
+      -- the words of the binding are VALUE words, and say what the binding says
+      pub bound-values : Every IsValue bs
+      bound-values = binding-values bs (bound-read .0) (is-binding .words) bound-small
+
       pub bound-lent : lent bs ≡ bound (bound-read .0)
-      bound-lent = binding-lent bs (bound-read .0) (is-binding .words) (ranged-small ws (s .transition .variables) (s .position + 1) (bound-read .0) (rw variables-same (is-binding .ranged)))
+      bound-lent = binding-lent bs (bound-read .0) (is-binding .words) bound-small
+
+      -- the conjuncts and the input arcs of the transition stand at their positions
+      pub test-conjuncts : (k : ℕ) → k ≡ s .transition .conjuncts → Every (HasConjunct ws (length bs)) (take k (drop 16 (s .own)))
+      test-conjuncts k g = rw g (conjuncts-stand ws (p .net .places) (s .position) (p .transition) (p .after) (p .there) (length bs) bound-length (ap (λ (o : Outline). o .guard) (p .outlines)))
+
+      pub test-inputs : Every (HasArc ws (take (s .places) (s .«places_at»)) (length bs)) (outlined s .inputs)
+      test-inputs = inputs-stand ws (p .net .places) (s .position) (p .transition) (p .after) (p .there) (length bs) bound-length (take (s .places) (s .«places_at»)) (p .placed) (ap (λ (o : Outline). o .inputs) (p .outlines))
 
       -- how many conjuncts are lent is told as a difference
       pub test-answers : {u : Bool} (k : ℕ) → k ≡ s .transition .conjuncts → IsEnabledAt ws (take (s .places) (s .«places_at»)) (take k (drop 16 (s .own))) (outlined s .inputs) ms (s .begins) bs u → yesOrNo u ≡ testCall ws t ms bs

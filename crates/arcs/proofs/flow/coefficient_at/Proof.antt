@@ -4,8 +4,8 @@ use mir.Syntax.{w32}
 use mir.Val.{SFits}
 use borrow.Author.Needs.{needs, sfits-of}
 use Rattle.word.proofs.Read.{negative, natural, read-natural}
-use Rattle.evaluation.proofs.Answers.{has-value, has-none, is-unread}
-use Rattle.arcs.proofs.Flowing.{coefficient-refused, coefficient-none, coefficient-negative, coefficient-natural}
+use Rattle.evaluation.proofs.Answers.{has-value, has-none}
+use Rattle.arcs.proofs.Flowing.{coefficient-none, coefficient-negative, coefficient-natural}
 use Rattle.arcs.proofs.flow.coefficient_at.Statement.{statement}
 use Rattle.arcs.proofs.flow.coefficient_at.Tie as tie
 
@@ -33,11 +33,6 @@ returns-3 c =
     let a = c .before .before .before .before .before .args in
     coefficient-none (has-none (a .net .now) (a .binding .now) (a .at) (c .before .before .evaluate .ensures) (c .enum-told .given .1))
 
-returns-4 : tie.Need-returns-4
-returns-4 c =
-    let a = c .before .before .before .before .before .args in
-    coefficient-refused (is-unread (a .net .now) (a .binding .now) (a .at) (c .before .before .evaluate .ensures) (c .enum-told2 .given .1))
-
 pub coefficient-at-spec : {M : Type 1} → statement M
 coefficient-at-spec =
     tie.close
@@ -47,7 +42,5 @@ coefficient-at-spec =
     returns
     cast-t9
     (λ c. search needs)
-    (λ c. search needs)
     returns-2
-    returns-3
-    returns-4)
+    returns-3)

@@ -4,7 +4,7 @@ use Prim.Native.Nat.{_-_}
 use lib.ListN.{length}
 use native.Mathlib.Omega.{arith}
 use borrow.Author.Needs.{needs}
-use Rattle.arcs.proofs.Gathering.{Gathering, gathering-start, gathering-turn, gathering-idle, gathering-outside, gathering-nothing, gathering-end}
+use Rattle.arcs.proofs.Gathering.{Gathering, arc-there, gathering-start, gathering-turn, gathering-idle, gathering-outside, gathering-nothing, gathering-end}
 use Rattle.arcs.proofs.gather.gather.Statement.{statement}
 use Rattle.arcs.proofs.gather.gather.Tie as tie
 
@@ -15,10 +15,7 @@ abbrev μ-loop : tie.MeasureT-loop
 μ-loop net places binding ats keys₀ amounts₀ n₀ i₀ keys amounts n i = length ats - i
 
 loop-holds : tie.Need-loop-holds Inv-loop μ-loop
-loop-holds c = gathering-start _ _ _ _ _ _ (c .before .before .before .before .before .before .pre .1 .1 .0) (c .before .before .before .before .before .before .pre .1 .1 .1)
-
-move-at-requires : tie.Need-move-at-requires Inv-loop μ-loop
-move-at-requires c κs = c .before .before .before .before .before .before .before .before .before .pre .0
+loop-holds c = gathering-start _ _ _ _ _ _ (c .before .before .before .before .before .before .pre .1 .1 .0 .0) (c .before .before .before .before .before .before .pre .1 .1 .0 .1)
 
 mul-keys : tie.Need-mul-keys Inv-loop μ-loop
 mul-keys c = let i = c .before .before .before .before .before .before .loop .inv in let few = i .few in let k = i .keys-full in let a = i .amounts-full in let l = c .before .before .before .before .before .before .before .before .before .before .before .before .before .pre .1 .0 in omega arith
@@ -42,28 +39,28 @@ loop-again-2 : tie.Need-loop-again-2 Inv-loop μ-loop
 loop-again-2 c = gathering-idle (c .before .before .before .before .before .loop .inv) (c .before .before .before .before .loop-test .taken) (c .before .before .move-at .ensures) (c .enum-told .given .1)
 
 same-length : tie.Need-same-length Inv-loop μ-loop
-same-length c = c .before .before .before .before .before .loop .inv .keys-full ∙ sym (c .before .before .before .before .before .before .before .before .before .before .before .before .pre .1 .1 .0)
+same-length c = c .before .before .before .before .before .loop .inv .keys-full ∙ sym (c .before .before .before .before .before .before .before .before .before .before .before .before .pre .1 .1 .0 .0)
 
 same-length-2 : tie.Need-same-length-2 Inv-loop μ-loop
-same-length-2 c = c .before .before .before .before .before .loop .inv .amounts-full ∙ sym (c .before .before .before .before .before .before .before .before .before .before .before .before .pre .1 .1 .1)
+same-length-2 c = c .before .before .before .before .before .loop .inv .amounts-full ∙ sym (c .before .before .before .before .before .before .before .before .before .before .before .before .pre .1 .1 .0 .1)
 
 returns : tie.Need-returns Inv-loop μ-loop
 returns c = gathering-outside (c .before .before .before .before .before .loop .inv) (c .before .before .before .before .loop-test .taken) (c .before .before .move-at .ensures) (c .enum-told2 .given .1)
 
 same-length-3 : tie.Need-same-length-3 Inv-loop μ-loop
-same-length-3 c = c .before .before .before .before .before .loop .inv .keys-full ∙ sym (c .before .before .before .before .before .before .before .before .before .before .before .before .pre .1 .1 .0)
+same-length-3 c = c .before .before .before .before .before .loop .inv .keys-full ∙ sym (c .before .before .before .before .before .before .before .before .before .before .before .before .pre .1 .1 .0 .0)
 
 same-length-4 : tie.Need-same-length-4 Inv-loop μ-loop
-same-length-4 c = c .before .before .before .before .before .loop .inv .amounts-full ∙ sym (c .before .before .before .before .before .before .before .before .before .before .before .before .pre .1 .1 .1)
+same-length-4 c = c .before .before .before .before .before .loop .inv .amounts-full ∙ sym (c .before .before .before .before .before .before .before .before .before .before .before .before .pre .1 .1 .0 .1)
 
 returns-2 : tie.Need-returns-2 Inv-loop μ-loop
 returns-2 c = gathering-nothing (c .before .before .before .before .before .loop .inv) (c .before .before .before .before .loop-test .taken) (c .before .before .move-at .ensures) (c .enum-told3 .given .1)
 
 same-length-5 : tie.Need-same-length-5 Inv-loop μ-loop
-same-length-5 c = c .before .loop .inv .keys-full ∙ sym (c .before .before .before .before .before .before .before .before .pre .1 .1 .0)
+same-length-5 c = c .before .loop .inv .keys-full ∙ sym (c .before .before .before .before .before .before .before .before .pre .1 .1 .0 .0)
 
 same-length-6 : tie.Need-same-length-6 Inv-loop μ-loop
-same-length-6 c = c .before .loop .inv .amounts-full ∙ sym (c .before .before .before .before .before .before .before .before .pre .1 .1 .1)
+same-length-6 c = c .before .loop .inv .amounts-full ∙ sym (c .before .before .before .before .before .before .before .before .pre .1 .1 .0 .1)
 
 returns-3 : tie.Need-returns-3 Inv-loop μ-loop
 returns-3 c = gathering-end (c .before .loop .inv) (c .before .before .before .before .before .before .before .before .pre .1 .0) (c .loop-test .left)
@@ -77,7 +74,7 @@ gather-spec =
     loop-holds
     (λ c. omega arith)
     (λ c. omega arith)
-    move-at-requires
+    (λ c κs. search (needs, arc-there))
     (λ c. search needs)
     mul-keys
     slice-write-keys

@@ -6,7 +6,9 @@ use borrow.Fn.PlainCycle.{Measures, is, falls, and}
 use Rattle.evaluation.proofs.Evaluating.{evaluating, operating}
 use Rattle.numbers.proofs.number.apply_load.Reads as apply-load
 use Rattle.numbers.proofs.number.operate.Reads as operate
-use Rattle.expression.proofs.head.head_at.Reads as head-at
+use Rattle.word.proofs.fields.kind.Reads as kind
+use Rattle.word.proofs.fields.payload.Reads as payload
+use Rattle.word.proofs.fields.signed.Reads as signed
 use Rattle.evaluation.proofs.evaluate.value_of.Reads as value-of
 use Rattle.evaluation.proofs.evaluate.evaluate_load.Reads as load
 use Rattle.evaluation.proofs.evaluate.evaluate_load.Kinds as load-kinds
@@ -57,22 +59,23 @@ pub +evaluate-load+evaluate-two+evaluate-within-spec : {M : Type 1} → statemen
     (λ t. load-lts.spec (within-below t, within.Post, apply-load.Asked, apply-load.Learnt) (load-at t) load.Post
     (λ c. search operating)
     (λ c. search operating)
-    (λ c. search operating)
-    (λ c. search operating)
-    (λ c. search operating)
     (λ c. search operating))
     (λ t. two-lts.spec (within-below t, within.Post, operate.Asked, operate.Learnt) (two-at t) two.Post
     (λ c. search operating)
     (λ c. search operating)
     (λ c. search operating)
-    (λ c. search operating)
-    (λ c. search operating)
-    (λ c. search operating)
-    (λ c. search operating)
-    (λ c. search operating)
-    (λ c. search operating)
     (λ c. search operating))
-    λ t. within-lts.spec (head-at.Asked, head-at.Learnt, value-of.Asked, value-of.Learnt, two-below t, two.Post, load-below t, load.Post) (within-at t) within.Post
+    λ t. within-lts.spec (payload.Asked, payload.Learnt, kind.Asked, kind.Learnt, signed.Asked, signed.Learnt, value-of.Asked, value-of.Learnt, load-below t, load.Post, two-below t, two.Post) (within-at t) within.Post
+    (λ c. search evaluating)
+    (λ c. search evaluating)
+    (λ c. search evaluating)
+    (λ c. search evaluating)
+    (λ c. search evaluating)
+    (λ c. search evaluating)
+    (λ c. search evaluating)
+    (λ c. search evaluating)
+    (λ c. search evaluating)
+    (λ c. search evaluating)
     (λ c. search evaluating)
     (λ c. search evaluating)
     (λ c. search evaluating)

@@ -7,10 +7,7 @@ pub evaluate-any-spec : {M : Type 1} → statement M
 evaluate-any-spec =
     tie.close
     (tie.spec
-    (λ c. search outcomes)
-    (λ c. search outcomes)
-    (λ c. search outcomes)
-    (λ c. search outcomes)
+    (λ c κs. search outcomes)
     (λ c. search outcomes)
     (λ c. search outcomes)
     (λ c. search outcomes)

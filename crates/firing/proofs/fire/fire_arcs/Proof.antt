@@ -1,12 +1,12 @@
 -- `firing::fire::fire_arcs` meets its contract: 13, or as `fire_taken`.
 use mathlib.Core.Path.{refl}
-use Rattle.firing.proofs.Firing.{taken-known, fired-13}
+use Rattle.firing.proofs.Firing.{fireable-guard, fireable-inputs, taken-known, fired-13}
 use borrow.Author.Needs.{needs}
 use Rattle.firing.proofs.fire.fire_arcs.Statement.{statement}
 use Rattle.firing.proofs.fire.fire_arcs.Tie as tie
 
 taken-requires : tie.Need-taken-requires
-taken-requires c κs = let p = c .before .before .before .before .before .before .before .before .before .before .before .pre in (p .0, (p .1 .0, (p .1 .1 .0 .0, (refl, refl))))
+taken-requires c κs = let p = c .before .before .before .before .before .before .before .before .before .before .before .pre in let q = p .1 .1 .1 in (p .0, (p .1 .0, (p .1 .1 .0 .0, ((refl, refl), (fireable-guard q, (fireable-inputs q, q .words))))))
 
 returns : tie.Need-returns
 returns c = record { fired = λ q. fired-13 q (c .before .before .before .before .taken .ensures .enabled) (c .before .before .before .before .before .before .before .before .before .before .before .before .before .before .before .before .args .next .now) (c .if1 .taken) }

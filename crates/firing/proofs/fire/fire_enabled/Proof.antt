@@ -1,8 +1,12 @@
 -- `firing::fire::fire_enabled` meets its contract: an enabled binding takes something from each input arc, so as `fire_taken`.
-use Rattle.firing.proofs.Firing.{enabled-gathered}
+use mathlib.Core.Path.{refl}
+use Rattle.firing.proofs.Firing.{fireable-inputs, enabled-gathered}
 use borrow.Author.Needs.{needs}
 use Rattle.firing.proofs.fire.fire_enabled.Statement.{statement}
 use Rattle.firing.proofs.fire.fire_enabled.Tie as tie
+
+gather-requires : tie.Need-gather-requires
+gather-requires c κs = let p = c .before .before .before .before .before .before .before .before .before .before .pre in let q = p .1 .1 .1 .fireable in (p .0, (p .1 .1 .0 .0, ((refl, refl), (fireable-inputs q, q .words))))
 
 fire-taken-requires : tie.Need-fire-taken-requires
 fire-taken-requires c κs =
@@ -20,7 +24,7 @@ fire-enabled-spec =
     (tie.spec
     (λ c. search needs)
     (λ c. search needs)
-    (λ c κs. search needs)
+    gather-requires
     (λ c. search needs)
     (λ c. search needs)
     fire-taken-requires

@@ -1,11 +1,14 @@
 -- `firing::fire::fire_taken` meets its contract: each return is a rule of `Firing`.
-use mathlib.Core.Path.{sym}
+use mathlib.Core.Path.{refl, sym}
 use native.Mathlib.Omega.{arith}
 use lib.Seq.{length-take-le}
-use Rattle.firing.proofs.Firing.{gathered-moves, fired-14, fired-stepping, fired-step}
+use Rattle.firing.proofs.Firing.{fireable-outputs, gathered-moves, fired-14, fired-stepping, fired-step}
 use borrow.Author.Needs.{needs}
 use Rattle.firing.proofs.fire.fire_taken.Statement.{statement}
 use Rattle.firing.proofs.fire.fire_taken.Tie as tie
+
+gather-requires : tie.Need-gather-requires
+gather-requires c κs = let p = c .before .before .before .before .before .before .before .before .before .before .before .pre in let q = p .1 .1 .1 .1 .enabled .fireable in (p .0, (p .1 .1 .0, ((refl, refl), (fireable-outputs q, q .words))))
 
 returns : tie.Need-returns
 returns c = record { fired = λ is i. record { fired = λ gs e. record { fired = λ q. fired-14 q e i (c .before .before .before .before .gather .ensures) (c .before .before .before .before .before .before .before .before .before .before .before .before .before .before .before .before .args .next .now) (c .if1 .taken) } } }
@@ -41,7 +44,7 @@ fire-taken-spec =
     (tie.spec
     (λ c. search needs)
     (λ c. search needs)
-    (λ c κs. search needs)
+    gather-requires
     returns
     slice-aggregate-fire-keys
     slice-aggregate-fire-keys-2

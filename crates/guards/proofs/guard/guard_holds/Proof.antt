@@ -4,7 +4,7 @@ use Prim.Native.Nat.{_-_}
 use lib.ListN.{length}
 use borrow.Author.Needs.{needs}
 use borrow.Author.Tests.{not-true, not-false}
-use Rattle.guards.proofs.Guarding.{Guarding, guarding-start, guarding-turn, guarding-stop, guarding-end}
+use Rattle.guards.proofs.Guarding.{Guarding, conjunct-there, guarding-start, guarding-turn, guarding-stop, guarding-end}
 use Rattle.guards.proofs.guard.guard_holds.Statement.{statement}
 use Rattle.guards.proofs.guard.guard_holds.Tie as tie
 
@@ -35,7 +35,7 @@ guard-holds-spec =
     loop-holds
     (λ c. search needs)
     (λ c. search needs)
-    (λ c κs. search needs)
+    (λ c κs. search (needs, conjunct-there))
     returns
     (λ c. search needs)
     (λ c. omega arith)

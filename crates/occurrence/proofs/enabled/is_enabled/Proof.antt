@@ -5,7 +5,7 @@ use Rattle.occurrence.proofs.enabled.is_enabled.Tie as tie
 use borrow.Author.Needs.{needs}
 
 taken-requires : tie.Need-taken-requires
-taken-requires c κs = let p = c .before .before .before .before .before .before .before .before .before .pre in (p .0, (p .1 .0, (p .1 .1, (refl, refl))))
+taken-requires c κs = let p = c .before .before .before .before .before .before .before .before .before .pre in (p .0, (p .1 .0, (p .1 .1 .0, ((refl, refl), p .1 .1 .1))))
 
 pub is-enabled-spec : {M : Type 1} → statement M
 is-enabled-spec =

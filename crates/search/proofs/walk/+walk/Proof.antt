@@ -20,7 +20,7 @@ use Rattle.search.specs.Search.{costFrom, rowsFrom}
 use Rattle.search.proofs.Trying.{Trying, trying-start, ended-all, ended-spent, trying-skip, trying-same, ended-stop, trying-turn}
 use Rattle.search.proofs.Worlds.{few-variables, few-inputs, few-elements, ranges-fit, next-element}
 use Rattle.search.proofs.Sparing.{inputs-within}
-use Rattle.search.proofs.Walking.{Onward, Went, went, ended-same, leaf-handed, walked-leaf, spared-leaf, stepping, try-on, try-off, try-left, back, kept-of, noted-of}
+use Rattle.search.proofs.Walking.{Onward, Went, went, ended-same, leaf-inputs, leaf-others, leaf-handed, walked-leaf, spared-leaf, stepping, try-on, try-off, try-left, back, kept-of, noted-of}
 use Rattle.search.proofs.walk.walk.Reads as walk
 use Rattle.search.proofs.walk.walk.Kinds as walk-kinds
 use Rattle.search.proofs.walk.+walk.Lts-walk as walk-lts
@@ -58,7 +58,7 @@ walk-μ-loop net places position variables conjuncts inputs elements marking beg
 walk-leaf-requires : (t : ℕ) → walk-lts.Need-leaf-requires (calls t) (walk-at t) walk.Post walk-Inv-loop walk-μ-loop
 walk-leaf-requires t c κs =
     let st = c .before .before .before .before .before .before .before .before .before .before .before .before in
-    leaf-handed (st .pre .1 .0) (st .args .depth) (st .args .slots .now) (st .pre .1 .1 .1 .0) (c .before .before .if1 .taken) (st .pre .1 .1 .0 .1) (st .args .inputs .now) (few-inputs (st .pre .1 .0)) (st .pre .1 .1 .1 .1 .0)
+    leaf-handed (st .pre .1 .0) (st .args .depth) (st .args .slots .now) (st .pre .1 .1 .1 .0) (c .before .before .if1 .taken) (st .pre .1 .1 .0 .1) (st .args .inputs .now) (few-inputs (st .pre .1 .0)) (leaf-inputs (st .pre .1 .0) (st .args .depth) (st .args .slots .now) (st .pre .1 .1 .1 .0) (c .before .before .if1 .taken) (st .pre .1 .1 .0 .1)) (st .pre .1 .1 .1 .1 .0)
 
 walk-returns : (t : ℕ) → walk-lts.Need-returns (calls t) (walk-at t) walk.Post walk-Inv-loop walk-μ-loop
 walk-returns t c =
@@ -157,7 +157,7 @@ walk-slice-aggregate-leaf : (t : ℕ) → walk-lts.Need-slice-aggregate-leaf (ca
 walk-slice-aggregate-leaf t c = sym (length-take-le (c .before .before .before .before .before .before .before .before .before .before .before .before .before .before .before .before .before .leave-out .result) (c .before .before .before .before .before .before .before .before .before .before .before .before .before .before .before .before .before .leave-out .last .1 .1 .0) (let f = c .before .before .before .before .before .before .before .before .before .before .before .before .before .before .before .before .before .leave-out .ensures .few in let k = c .before .before .before .before .before .before .before .before .before .before .before .before .before .before .before .before .before .leave-out .ensures .full in omega arith))
 
 walk-leaf-requires-2 : (t : ℕ) → walk-lts.Need-leaf-requires-2 (calls t) (walk-at t) walk.Post walk-Inv-loop walk-μ-loop
-walk-leaf-requires-2 t c κs = let O = walk-onward t (c .before .before .before .before) in leaf-handed (c .before .before .before .before .before .before .before .before .before .before .before .before .before .before .before .before .before .before .before .before .before .before .before .before .before .before .before .before .before .before .before .before .before .before .before .before .before .before .before .before .pre .1 .0) (c .before .before .before .before .before .before .before .before .before .before .before .before .before .before .before .before .before .before .before .before .before .before .before .before .before .before .before .before .before .before .before .before .before .before .before .before .before .before .before .before .args .depth + 1) (c .before .before .before .before .before .before .before .try-at .last .1 .1 .1 .1 .1 .1 .1 .0) (O .sound) (c .before .before .before .if5 .taken) (O .long) (take (c .before .before .before .before .before .before .before .before .before .before .before .before .before .before .before .before .before .before .before .leave-out .result) (c .before .before .before .before .before .before .before .before .before .before .before .before .before .before .before .before .before .before .before .leave-out .last .1 .1 .0)) (let m = length-take (c .before .before .before .before .before .before .before .before .before .before .before .before .before .before .before .before .before .before .before .leave-out .result) (c .before .before .before .before .before .before .before .before .before .before .before .before .before .before .before .before .before .before .before .leave-out .last .1 .1 .0) in let f = c .before .before .before .before .before .before .before .before .before .before .before .before .before .before .before .before .before .before .before .leave-out .ensures .few in omega arith) (O .held)
+walk-leaf-requires-2 t c κs = let O = walk-onward t (c .before .before .before .before) in leaf-handed (c .before .before .before .before .before .before .before .before .before .before .before .before .before .before .before .before .before .before .before .before .before .before .before .before .before .before .before .before .before .before .before .before .before .before .before .before .before .before .before .before .pre .1 .0) (c .before .before .before .before .before .before .before .before .before .before .before .before .before .before .before .before .before .before .before .before .before .before .before .before .before .before .before .before .before .before .before .before .before .before .before .before .before .before .before .before .args .depth + 1) (c .before .before .before .before .before .before .before .try-at .last .1 .1 .1 .1 .1 .1 .1 .0) (O .sound) (c .before .before .before .if5 .taken) (O .long) (take (c .before .before .before .before .before .before .before .before .before .before .before .before .before .before .before .before .before .before .before .leave-out .result) (c .before .before .before .before .before .before .before .before .before .before .before .before .before .before .before .before .before .before .before .leave-out .last .1 .1 .0)) (let m = length-take (c .before .before .before .before .before .before .before .before .before .before .before .before .before .before .before .before .before .before .before .leave-out .result) (c .before .before .before .before .before .before .before .before .before .before .before .before .before .before .before .before .before .before .before .leave-out .last .1 .1 .0) in let f = c .before .before .before .before .before .before .before .before .before .before .before .before .before .before .before .before .before .before .before .leave-out .ensures .few in omega arith) (leaf-others (c .before .before .before .before .before .before .before .before .before .before .before .before .before .before .before .before .before .before .before .before .before .before .before .before .before .before .before .before .before .before .before .before .before .before .before .before .before .before .before .before .pre .1 .0) (c .before .before .before .before .before .before .before .before .before .before .before .before .before .before .before .before .before .before .before .before .before .before .before .before .before .before .before .before .before .before .before .before .before .before .before .before .before .before .before .before .args .depth + 1) (c .before .before .before .before .before .before .before .try-at .last .1 .1 .1 .1 .1 .1 .1 .0) (O .sound) (c .before .before .before .if5 .taken) (O .long) _ (c .before .before .before .before .before .before .before .before .before .before .before .before .before .before .before .before .before .before .before .leave-out .ensures .same)) (O .held)
 
 walk-add-walk : (t : ℕ) → walk-lts.Need-add-walk (calls t) (walk-at t) walk.Post walk-Inv-loop walk-μ-loop
 walk-add-walk t c = let f = few-elements (c .before .before .before .before .before .before .before .before .before .before .before .before .before .before .before .before .before .before .before .before .before .before .before .before .before .before .before .before .before .before .before .before .before .before .before .before .before .pre .1 .0) in let h = c .before .before .before .before .before .before .before .before .before .before .before .before .before .before .before .before .before .before .before .before .before .before .before .before .before .before .before .before .before .before .before .before .before .before .before .before .before .pre .1 .1 .0 .0 in let n = c .before .before .before .before .before .before .before .before .before .before .before .before .before .before .before .before .before .before .before .before .before .before .before .before .before .before .before .if1 .left in search needs

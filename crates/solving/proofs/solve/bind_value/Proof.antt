@@ -7,7 +7,7 @@ use lib.ListN.{length}
 use Rattle.net.specs.Places.{rangesFrom}
 use Rattle.word.proofs.Read.{read-back}
 use Rattle.tries.proofs.Slots.{tried-not, tried-same}
-use Rattle.solving.proofs.Solving.{all-slots, bound-value, bound-none, bound-unread}
+use Rattle.solving.proofs.Solving.{slots-stand, all-slots, bound-value, bound-none}
 use Rattle.solving.proofs.solve.bind_value.Statement.{statement}
 use Rattle.solving.proofs.solve.bind_value.Tie as tie
 
@@ -16,7 +16,7 @@ returns : tie.Need-returns
 returns c =
     let st = c .before .before .before .before .before .before .before .before .before .before .before in
     let a = st .args in
-    let n = st .pre .0 in
+    let n = st .pre .0 .0 in
     let l : a .variables ≤ length (a .slots .now) = omega arith in
     let z = c .before .before .before .before .before .z .given in
     let p = read-back (z .0 .0) (c .before .before .before .before .known-told .given .0 .1) in
@@ -27,31 +27,19 @@ returns-2 : tie.Need-returns-2
 returns-2 c =
     let st = c .before .before .before .before .before .before in
     let a = st .args in
-    let n = st .pre .0 in
+    let n = st .pre .0 .0 in
     let l : a .variables ≤ length (a .slots .now) = omega arith in
     tried-not (bound-none (a .net .now) (a .slots .now) (a .variables) (a .at) l (all-slots (a .net .now) (a .slots .now) (a .variables) (a .at) n (c .before .before .evaluate .result) (c .before .before .evaluate .ensures)) (rangesFrom (a .net .now) (a .variables) (a .ranges)) (a .n) (c .enum-told .given .1))
-
--- no expression
-returns-3 : tie.Need-returns-3
-returns-3 c =
-    let st = c .before .before .before .before .before .before in
-    let a = st .args in
-    let n = st .pre .0 in
-    let l : a .variables ≤ length (a .slots .now) = omega arith in
-    tried-not (bound-unread (a .net .now) (a .slots .now) (a .variables) (a .at) l (all-slots (a .net .now) (a .slots .now) (a .variables) (a .at) n (c .before .before .evaluate .result) (c .before .before .evaluate .ensures)) (rangesFrom (a .net .now) (a .variables) (a .ranges)) (a .n) (c .enum-told2 .given .1))
 
 pub bind-value-spec : {M : Type 1} → statement M
 bind-value-spec =
     tie.close
     (tie.spec
-    (λ c κs. search needs)
+    (λ c κs. search (needs, slots-stand))
     (λ c. search needs)
     (λ c κs. search needs)
-    (λ c. search needs)
     (λ c. search needs)
     (λ c. search needs)
     returns
     (λ c. search needs)
-    returns-2
-    (λ c. search needs)
-    returns-3)
+    returns-2)

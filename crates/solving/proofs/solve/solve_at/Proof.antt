@@ -7,7 +7,8 @@ use lib.ListN.{length}
 use Rattle.net.specs.Places.{rangesFrom}
 use Rattle.word.proofs.Read.{read-back}
 use Rattle.tries.proofs.Slots.{tried-not, tried-same}
-use Rattle.solving.proofs.Solving.{all-slots, left-inside, left-unbound, left-value, left-none, left-unread, left-ends}
+use Rattle.net.proofs.Standing.{left-stands, left-inside}
+use Rattle.solving.proofs.Solving.{slots-stand, all-slots, behind-lone, left-unbound, left-value, left-none, left-ends}
 use Rattle.solving.proofs.solve.solve_at.Statement.{statement}
 use Rattle.solving.proofs.solve.solve_at.Tie as tie
 
@@ -19,6 +20,12 @@ lone-at-requires c κs = let st = c .before .before .before in (st .pre .0 .0, l
 
 add-bind-value : tie.Need-add-bind-value
 add-bind-value c = let st = c .before .before .before .before .before .before .before .before in let h : st .args .at + 2 ≤ 16384 = left-inside (st .pre .1) .1 in search needs
+
+-- the right side stands behind the unbound variable
+bind-value-requires : tie.Need-bind-value-requires
+bind-value-requires c κs =
+    let st = c .before .before .before .before .before .before .before .before in
+    (st .pre .0, behind-lone (st .pre .1) (st .args .slots .now) {n = c .before .before .n .given .0 .0} (rw (c .before .before .n .given .1) at (c .before .before .before .before .lone-at .ensures)))
 
 add-evaluate : tie.Need-add-evaluate
 add-evaluate c = let st = c .before .before .before .before .before .before .before in let h : st .args .at + 2 ≤ 16384 = left-inside (st .pre .1) .1 in search needs
@@ -59,15 +66,6 @@ returns-3 c =
     let l : a .variables ≤ length (a .slots .now) = omega arith in
     tried-not (left-none (st .pre .1) (a .slots .now) (rangesFrom (a .net .now) (a .variables) (a .ranges)) (rw (c .before .before .before .before .enum-told .given .1) at (c .before .before .before .before .before .before .lone-at .ensures)) l (all-slots (a .net .now) (a .slots .now) (a .variables) (a .at + 1) n (c .before .before .evaluate .result) (c .before .before .evaluate .ensures)) (c .enum-told2 .given .1))
 
--- it is not there
-returns-4 : tie.Need-returns-4
-returns-4 c =
-    let st = c .before .before .before .before .before .before .before .before .before .before in
-    let a = st .args in
-    let n = st .pre .0 .0 in
-    let l : a .variables ≤ length (a .slots .now) = omega arith in
-    tried-not (left-unread (st .pre .1) (a .slots .now) (rangesFrom (a .net .now) (a .variables) (a .ranges)) (rw (c .before .before .before .before .enum-told .given .1) at (c .before .before .before .before .before .before .lone-at .ensures)) l (all-slots (a .net .now) (a .slots .now) (a .variables) (a .at + 1) n (c .before .before .evaluate .result) (c .before .before .evaluate .ensures)) (c .enum-told3 .given .1))
-
 pub solve-at-spec : {M : Type 1} → statement M
 solve-at-spec =
     tie.close
@@ -76,19 +74,16 @@ solve-at-spec =
     lone-at-requires
     (λ c. search needs)
     add-bind-value
-    (λ c κs. search needs)
+    bind-value-requires
     (λ c. search needs)
     add-evaluate
-    (λ c κs. search needs)
+    (λ c κs. search (needs, slots-stand, left-stands))
     (λ c. search needs)
     bind-lone-requires
-    (λ c. search needs)
     (λ c. search needs)
     (λ c. search needs)
     returns
     (λ c. search needs)
     returns-2
     (λ c. search needs)
-    returns-3
-    (λ c. search needs)
-    returns-4)
+    returns-3)
