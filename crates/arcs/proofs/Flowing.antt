@@ -11,20 +11,19 @@ use native.Mathlib.Omega.{arith}
 use borrow.Author.Needs.{needs}
 use mir.Syntax.{w64}
 use mir.Val.{Fits}
-use borrow.Author.Tests.{lt-ltb, le-ltb, eqb-true, eqb-false}
-use lib.Dec.{ltb, eqb}
+use borrow.Author.Tests.{eqb-true, eqb-false}
+use lib.Dec.{eqb}
 use lib.IntN.{ℤ, pos, negsuc}
 use lib.ListN.{length, getD}
 use Rattle.semantics.specs.Word.{payload}
 use Rattle.semantics.specs.Expression.{houseTable, value, valuesOf}
-use Rattle.semantics.specs.Reading.{several}
-use Rattle.semantics.specs.ReadNet.{readExpression, readArc}
+use Rattle.semantics.specs.ReadNet.{readExpression}
 use Rattle.semantics.specs.Net.{rangesAt}
 use Rattle.expression.specs.Standing.{HasSeveral}
 use Rattle.semantics.specs.Enabling.{flowBy, flow}
 use Rattle.semantics.proofs.Tests.{false-true, either}
 use Rattle.evaluation.specs.Evaluate.{lent}
-use Rattle.net.specs.Places.{rangesFrom, widthAt, placesAt, PlacesFit}
+use Rattle.net.specs.Places.{rangesFrom, placesAt, PlacesFit}
 use Rattle.net.specs.Standing.{HasArc}
 use Rattle.net.proofs.Standing.{placeOf, parts, coefficient-stands, components-stand, arc-short}
 use Rattle.net.proofs.Placed.{ranges-at, fits-at}
@@ -35,7 +34,7 @@ use Rattle.arcs.specs.declared.flow.Packed.{Packed}
 use Rattle.arcs.specs.declared.flow.Packed.the-variants.{Code, Outside as Packed-outside, Nothing as Packed-none}
 use Rattle.arcs.specs.declared.flow.Moved.{Moved}
 use Rattle.arcs.specs.declared.flow.Moved.the-variants.{Idle, Nothing}
-use Rattle.arcs.specs.Flow.{colourOf, colourAt, tokensBy, coefficientOf, arcFlow, flowAt}
+use Rattle.arcs.specs.Flow.{colourAt, tokensBy, coefficientOf, flowAt}
 use Rattle.arcs.specs.Keys.{widthOf, coefficientRead, Packs, IsPacked, movedBy, Says, IsMoved}
 use Rattle.evaluation.proofs.Answers.{Valued}
 use Rattle.arcs.proofs.Packing.{packed-below}

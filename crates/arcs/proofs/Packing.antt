@@ -77,8 +77,8 @@ pub ruleset components = (needs, begins-in-words, begin-fits, variable-there, co
 
 -- ── Held against its range ──
 
-pub put-past : (c : Coded) (range : ℕ) {z : ℤ} → within (rangeWord range) z ≡ false → IsPut c range z (record { inside = false; code = 0 })
-put-past c range e = record { inside = rw e (sym (and-false (c .inside))); coded = λ u. false-true u; outside = λ u. omega arith }
+put-past : (c : Coded) (range : ℕ) {z : ℤ} {k : ℕ} → within (rangeWord range) z ≡ false → k ≤ c .code → IsPut c range z (record { inside = false; code = k })
+put-past c range e l = record { inside = rw e (sym (and-false (c .inside))); coded = λ u. false-true u; outside = λ u. omega arith }
 
 module _ {c : Coded} (range d : ℕ) where
   pub put-kept : not (c .inside) ≡ true → IsPut c range (ofDigit d) c
@@ -88,7 +88,7 @@ module _ {c : Coded} (range d : ℕ) where
 
   module _ (e : not (c .inside) ≡ false) {t : Bool} (x : t ≡ within (rangeWord range) (ofDigit d)) where
     pub put-outside : not t ≡ true → IsPut c range (ofDigit d) (record { inside = false; code = 0 })
-    put-outside i = put-past c range (sym x ∙ not-true t i)
+    put-outside i = put-past c range (sym x ∙ not-true t i) (omega arith)
 
     pub put-behind : not t ≡ false → d < 16384 → IsPut c range (ofDigit d) (record { inside = true; code = c .code * 16384 + d })
     put-behind n l =
@@ -189,10 +189,10 @@ module _ {ws bs : List ℕ} {ranges n at i next : ℕ} {c : Coded} (a : Packing 
   pub packing-digit : {d p range : ℕ} {r : Coded} → t ≡ Digit d p → range ≡ getD ws (ranges + i) 0 → IsPut c range (ofDigit d) r → Packing ws bs ranges n at (i + 1) p r
   packing-digit e g y = packing-turn a h (known-valued ws bs next (component-is x e .0)) g y
 
-  pub packing-past : {p : ℕ} → t ≡ Component-outside p → Packing ws bs ranges n at (i + 1) p (record { inside = false; code = 0 })
+  pub packing-past : {p : ℕ} → t ≡ Component-outside p → Packing ws bs ranges n at (i + 1) p (record { inside = false; code = c .code })
   packing-past e =
       let k = component-is x e in
-      packing-turn a h (known-valued ws bs next (k .1)) refl (put-past c (getD ws (ranges + i) 0) (k .2 (getD ws (ranges + i) 0)))
+      packing-turn a h (known-valued ws bs next (k .1)) refl (put-past c (getD ws (ranges + i) 0) (k .2 (getD ws (ranges + i) 0)) (omega arith))
 
   pub packing-nothing : t ≡ Component-none → IsPacked ws bs ranges n at Nothing
   packing-nothing e = record { packs = sym (ahead a h none (colour-none (n - (i + 1)) (known-valued ws bs next (component-is x e .1)))) }

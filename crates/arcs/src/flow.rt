@@ -136,10 +136,7 @@ fn pack(net: &[u32], binding: &[u32], ranges: usize, n: usize, at: usize) -> Pac
                 i += 1;
             }
             Component::Outside(q) => {
-                coded = Coded {
-                    inside: false,
-                    code: 0,
-                };
+                coded.inside = false;
                 next = q;
                 i += 1;
             }

@@ -17,17 +17,15 @@ use Rattle.semantics.specs.Expression.{Operator, Expression, Environment, binar
 use Rattle.semantics.proofs.Members.{elem-number}
 use Rattle.semantics.specs.Reading.{Reading, read, refused, then, Reader}
 use Rattle.semantics.specs.Word.{kind, payload, signed}
-use Rattle.semantics.specs.ReadNet.{binaryHead, expressionIn}
+use Rattle.semantics.specs.ReadNet.{expressionIn}
 use Rattle.semantics.proofs.Spans.{refused-read, then-read}
-use Rattle.semantics.specs.ReadNet.{operands as operandsOf}
 use Rattle.numbers.specs.declared.number.Number.{Number}
 use Rattle.numbers.specs.declared.number.Number.the-variants.{Some}
 use Rattle.word.specs.Operator.{operatorOf}
 use Rattle.numbers.specs.Number.{number}
-use Rattle.expression.specs.declared.head.Head.{Head}
 use Rattle.expression.specs.declared.head.Head.the-variants.{Constant, Variable, Binary, Load, Refused}
 use Rattle.evaluation.specs.declared.evaluate.Outcome.{Outcome}
-use Rattle.expression.specs.Head.{head, Onward, IsHead}
+use Rattle.expression.specs.Head.{Onward, IsHead}
 use Rattle.evaluation.specs.Evaluate.{valueOf, lent, Valuation, valued, unread, evaluatedFrom, Stands, StandTwo, outcome, IsOutcome, IsTwo, IsLoaded}
 use Rattle.expression.proofs.Heads.{constant-word, variable-word, binary-word, load-word, stray-constant, missing-variable, unknown-operator, other-word, words-end, too-many, sixteenth, taken, onward-more, head-onward, headed}
 
