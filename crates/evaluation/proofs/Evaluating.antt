@@ -20,13 +20,13 @@ use Rattle.semantics.specs.Word.{kind, payload, signed}
 use Rattle.semantics.specs.ReadNet.{expressionIn}
 use Rattle.semantics.proofs.Spans.{refused-read, then-read}
 use Rattle.numbers.specs.declared.number.Number.{Number}
-use Rattle.numbers.specs.declared.number.Number.the-variants.{Some}
+use Rattle.numbers.specs.declared.number.Number.the-variants.{Some, None}
 use Rattle.word.specs.Operator.{operatorOf}
 use Rattle.numbers.specs.Number.{number}
 use Rattle.expression.specs.declared.head.Head.the-variants.{Constant, Variable, Binary, Load, Refused}
 use Rattle.evaluation.specs.declared.evaluate.Outcome.{Outcome}
 use Rattle.expression.specs.Head.{Onward, IsHead}
-use Rattle.evaluation.specs.Evaluate.{valueOf, lent, Valuation, valued, unread, evaluatedFrom, Stands, StandTwo, outcome, IsOutcome, IsTwo, IsLoaded}
+use Rattle.evaluation.specs.Evaluate.{valueOf, lent, Valuation, valued, unread, evaluatedFrom, Stands, StandTwo, outcome, IsValueIn, Made, IsOutcome, IsTwo, IsLoaded}
 use Rattle.expression.proofs.Heads.{constant-word, variable-word, binary-word, load-word, stray-constant, missing-variable, unknown-operator, other-word, words-end, too-many, sixteenth, taken, onward-more, head-onward, headed}
 
 -- ── Values of readings ──
@@ -126,17 +126,17 @@ module _ {ws : List ℕ} {v at left : ℕ} (s : Stands ws v at left) where
 -- ── By the first word ──
 
 module _ {ws bs : List ℕ} {at left : ℕ} (s : Stands ws (length bs) at left) {k u : ℕ} (e : k ≡ kind (getD ws at 0)) (d : u ≡ payload (getD ws at 0)) where
-  pub constant : {y z : ℤ} → k ≡ 7 → z ≡ signed (getD ws at 0 % 16384) → y ≡ z → IsOutcome ws bs at left (record { value = Some y; next = at + 1; left = left - 1 })
+  pub constant : {y z : ℤ} → k ≡ 7 → z ≡ signed (getD ws at 0 % 16384) → y ≡ z → IsOutcome ws bs at left (record { some = true; z = y; next = at + 1; left = left - 1 })
   unfolding value
   constant i f g =
       let x = constant-head s e d i f in
       record { same = λ rounds stop h j. rw (headed x refl rounds stop h j, g); onward = head-onward x refl }
 
-  pub variable : {n : Number} → k ≡ 8 → number n ≡ valueOf (getD bs u 0) → IsOutcome ws bs at left (record { value = n; next = at + 1; left = left - 1 })
+  pub variable : {n : Number} {r : Outcome} → k ≡ 8 → number n ≡ valueOf (getD bs u 0) → Made n (at + 1) (left - 1) r → IsOutcome ws bs at left r
   unfolding value
-  variable i f =
+  variable i f m =
       let x = variable-head s e d i in
-      record { same = λ rounds stop h j. rw (headed x refl rounds stop h j, f, lent-at bs u (in-range s e d i)); onward = head-onward x refl .1 }
+      record { same = λ rounds stop h j. rw (headed x refl rounds stop h j, m .value, m .next-is, f, lent-at bs u (in-range s e d i)); onward = rw (m .next-is, m .left-is) (head-onward x refl .1) }
 
   -- what follows an operator leads onward from it
   pub loaded : {r : Outcome} → k ≡ 9 → u ≡ 4 → IsLoaded ws bs (at + 1) (left - 1) r → IsOutcome ws bs at left r
@@ -170,9 +170,9 @@ pub first-stands : {ws : List ℕ} {v at left : ℕ} → StandTwo ws v at left �
 first-stands s = record { rounds = s .rounds; enough = s .enough; tree = s .first; next = s .mid; reads = s .reads-first }
 
 module _ {ws bs : List ℕ} {at left : ℕ} {r : Outcome} (y : IsOutcome ws bs at left r) where
-  pub load-operand : {n : Number} → number n ≡ bind (number (r .value)) (loadOf houseTable) → IsLoaded ws bs at left (record { value = n; next = r .next; left = r .left })
-  load-operand i =
-      record { same = λ rounds stop h s. rw (from-load (lent bs), ← y .same rounds stop h s, i); onward = y .onward }
+  pub load-operand : {m n : Number} {t : Outcome} → IsValueIn r m → number n ≡ bind (number m) (loadOf houseTable) → Made n (r .next) (r .left) t → IsLoaded ws bs at left t
+  load-operand f i m =
+      record { same = λ rounds stop h s. rw (from-load (lent bs), ← y .same rounds stop h s, m .value, m .next-is, i, f .same); onward = rw (m .next-is, m .left-is) (y .onward) }
 
   -- the second operand stands where the first ends
   pub second-stands : StandTwo ws (length bs) at left → Stands ws (length bs) (r .next) (r .left)
@@ -184,12 +184,12 @@ module _ {ws bs : List ℕ} {at left : ℕ} {r : Outcome} (y : IsOutcome ws bs a
       record { rounds = s .rounds; enough = omega (arith, s .enough); tree = s .second; next = s .next; reads = rw (p, m) (s .reads-second) }
 
   module _ (k : ℕ) {t : Outcome} (z : IsOutcome ws bs (r .next) (r .left) t) where
-    pub operands : {n : Number} → number n ≡ operated (operatorOf k) (number (r .value)) (number (t .value)) → IsTwo ws bs k at left (record { value = n; next = t .next; left = t .left })
-    operands j =
+    pub operands : {a b n : Number} {u : Outcome} → IsValueIn r a → IsValueIn t b → number n ≡ operated (operatorOf k) (number a) (number b) → Made n (t .next) (t .left) u → IsTwo ws bs k at left u
+    operands f g j m =
         let p = y .onward in
         record {
-          same = λ rounds stop h i. rw (from-both (lent bs) (operatorOf k) (expressionIn rounds ws (length bs) stop), ← y .same rounds stop h i, ← z .same rounds stop (omega arith) (omega arith), j);
-          onward = onward-more p (z .onward);
+          same = λ rounds stop h i. rw (from-both (lent bs) (operatorOf k) (expressionIn rounds ws (length bs) stop), ← y .same rounds stop h i, ← z .same rounds stop (omega arith) (omega arith), m .value, m .next-is, j, f .same, g .same);
+          onward = rw (m .next-is, m .left-is) (onward-more p (z .onward));
         }
 
 -- ── The measure: twice the words left, and one more behind an operator ──
@@ -206,3 +206,19 @@ second-measure y d = let q = y .onward in omega arith
 pub ruleset evaluating = (needs, in-words, next-fits, some-left, in-range, no-operator, no-kind, load-stands, two-stand, constant, variable, loaded, operated-on, behind-measure)
 
 pub ruleset operating = (needs, first-stands, second-stands, load-operand, operands, operand-measure, second-measure)
+
+-- ── Values in outcomes ──
+
+pub made-some : (y : ℤ) {z : ℤ} (next left : ℕ) {x : Number} → x ≡ Some z → y ≡ z → Made x next left (record { some = true; z = y; next = next; left = left })
+made-some y next left e f = record { value = rw (e, f); next-is = refl; left-is = refl }
+
+pub made-none : (z : ℤ) (next left : ℕ) {x : Number} → x ≡ None → Made x next left (record { some = false; z = z; next = next; left = left })
+made-none z next left e = record { value = rw e; next-is = refl; left-is = refl }
+
+pub value-some : {r : Outcome} {y : ℤ} → r .some ≡ true → y ≡ r .z → IsValueIn r (Some y)
+value-some e f = record { same = rw (e, f) }
+
+pub value-none : {r : Outcome} → r .some ≡ false → IsValueIn r None
+value-none e = record { same = rw e }
+
+pub ruleset telling = (needs, made-some, made-none, value-some, value-none)

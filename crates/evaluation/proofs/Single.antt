@@ -1,14 +1,15 @@
 -- An evaluated expression as a whole: fifteen words are left at its start, and sixteen rounds are more than these. A constant and a lone variable are
 -- told by the rules of their first word.
-use mathlib.Core.Path.{_≡_, refl}
+use mathlib.Core.Path.{_≡_, refl, sym, ap}
+use mathlib.Core.Bool.{true, false}
 use mathlib.Core.List.{List}
 use mathlib.Core.Option.{none, some}
-use Prim.Native.Nat.{ℕ, _+_, _%_, _<_}
+use Prim.Native.Nat.{ℕ, _+_, _-_, _%_, _<_}
 use native.Mathlib.Omega.{arith}
 use borrow.Author.Needs.{needs}
 use mir.Syntax.{w64}
 use mir.Val.{Fits}
-use lib.IntN.{ℤ}
+use lib.IntN.{ℤ, pos}
 use lib.ListN.{length, getD}
 use Rattle.semantics.specs.Refusal.{mostExpressionWords}
 use Rattle.semantics.specs.Word.{kind, payload, signed}
@@ -32,10 +33,10 @@ module _ {ws bs : List ℕ} {at : ℕ} {r : Outcome} (x : IsOutcome ws bs at mos
   unfolding readExpression
   whole = x .same (mostExpressionWords + 1) (at + mostExpressionWords) (omega arith) refl
 
-  pub value : {y z : ℤ} → r .value ≡ Some z → y ≡ z → valued (some y) (r .next) ≡ evaluatedFrom (lent bs) (readExpression ws (length bs) at)
+  pub value : {y : ℤ} → r .some ≡ true → y ≡ r .z → valued (some y) (r .next) ≡ evaluatedFrom (lent bs) (readExpression ws (length bs) at)
   value d i = rw i (rw d at whole)
 
-  pub no-value : r .value ≡ None → valued none (r .next) ≡ evaluatedFrom (lent bs) (readExpression ws (length bs) at)
+  pub no-value : r .some ≡ false → valued none (r .next) ≡ evaluatedFrom (lent bs) (readExpression ws (length bs) at)
   no-value d = rw d at whole
 
 pub ruleset outcomes = (needs, whole-stands, value, no-value)
@@ -58,9 +59,9 @@ module _ (ws bs : List ℕ) (at : ℕ) (h : HasExpression ws (length bs) at) {k 
 
   module _ {u : ℕ} {n : Number} (d : u ≡ payload (getD ws at 0)) (i : k ≡ 8) (f : number n ≡ valueOf (getD bs u 0)) where
     pub variable-at : {y z : ℤ} → n ≡ Some z → y ≡ z → valued (some y) (at + 1) ≡ evaluatedFrom (lent bs) (readExpression ws (length bs) at)
-    variable-at g j = value {bs = bs} (variable {bs = bs} (whole-stands h) e d i f) g j
+    variable-at {z = z} g j = value {bs = bs} {r = record { some = true; z = z; next = at + 1; left = mostExpressionWords - 1 }} (variable {bs = bs} (whole-stands h) e d {n = n} i f (record { value = ap number (sym g); next-is = refl; left-is = refl })) refl j
 
     pub unbound-at : n ≡ None → valued none (at + 1) ≡ evaluatedFrom (lent bs) (readExpression ws (length bs) at)
-    unbound-at g = no-value {bs = bs} (variable {bs = bs} (whole-stands h) e d i f) g
+    unbound-at g = no-value {bs = bs} {r = record { some = false; z = pos 0; next = at + 1; left = mostExpressionWords - 1 }} (variable {bs = bs} (whole-stands h) e d {n = n} i f (record { value = ap number (sym g); next-is = refl; left-is = refl })) refl
 
 pub ruleset alone = (needs, begins-in-words, begin-fits, variable-there, constant-at, variable-at, unbound-at)

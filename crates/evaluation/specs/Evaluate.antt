@@ -13,6 +13,7 @@ use Rattle.semantics.specs.Expression.{Expression, Environment, given, houseTab
 use Rattle.semantics.specs.Reading.{Reading, read, refused}
 use Rattle.semantics.specs.ReadNet.{binaryHead, loadHead, operands, expressionIn}
 use Rattle.word.specs.Operator.{operatorOf}
+use Rattle.numbers.specs.declared.number.Number.{Number}
 use Rattle.numbers.specs.Number.{number}
 use Rattle.evaluation.specs.declared.evaluate.Evaluated.{Evaluated}
 use Rattle.evaluation.specs.declared.evaluate.Evaluated.the-variants.{Value, NoValue}
@@ -62,8 +63,22 @@ pub record StandTwo (ws : List ℕ) (v at left : ℕ) : Type 0 where
   pub reads-first : expressionIn rounds ws v (at + left) at ≡ read first mid
   pub reads-second : expressionIn rounds ws v (at + left) mid ≡ read second next
 
+-- the value that an outcome has, if any
+abbrev pub valueIn : Outcome → Option ℤ
+valueIn r = given (r .some) (r .z)
+
 abbrev pub outcome : Outcome → Valuation
-outcome r = valued (number (r .value)) (r .next)
+outcome r = valued (valueIn r) (r .next)
+
+-- that value as a number
+pub record IsValueIn (r : Outcome) (x : Number) : Type 0 where
+  pub same : number x ≡ valueIn r
+
+-- an outcome made of a value that may be missing
+pub record Made (x : Number) (next left : ℕ) (r : Outcome) : Type 0 where
+  pub value : valueIn r ≡ number x
+  pub next-is : r .next ≡ next
+  pub left-is : r .left ≡ left
 
 -- the value of the reading by any number of rounds above the words left
 pub record IsOutcome (ws bs : List ℕ) (at left : ℕ) (r : Outcome) : Type 0 where

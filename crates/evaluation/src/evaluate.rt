@@ -11,7 +11,7 @@ ghost use lib.ListN.{length};
 ghost use Rattle.semantics.specs.ReadNet.{readExpression};
 ghost use Rattle.numbers.specs.Number.{number};
 ghost use Rattle.expression.specs.Standing.{HasExpression};
-ghost use Rattle.evaluation.specs.Evaluate.{valueOf, lent, evaluated, evaluatedFrom, Stands, StandTwo, IsOutcome, IsTwo, IsLoaded};
+ghost use Rattle.evaluation.specs.Evaluate.{valueOf, lent, evaluated, evaluatedFrom, Stands, StandTwo, IsValueIn, Made, IsOutcome, IsTwo, IsLoaded};
 
 // The value of a VALUE word; any other word has none.
 pub fn value_of(w: u32) -> Number
@@ -30,11 +30,41 @@ pub fn value_of(w: u32) -> Number
     }
 }
 
-// The value of an expression, which may be missing, the position after it and the words left.
+// The value of an expression, if there is some, the position after it and the words left. The value is told by two fields and not by an enum, whose bytes
+// would be stored one by one and loaded together, for which the processor waits.
 struct Outcome {
-    value: Number,
+    some: bool,
+    z: i32,
     next: usize,
     left: usize,
+}
+
+fn outcome_of(x: Number, next: usize, left: usize) -> Outcome
+    ensures { λ r. ⌜ Made x next left r ⌝ }
+{
+    match x {
+        Number::Some(z) => Outcome {
+            some: true,
+            z: z,
+            next: next,
+            left: left,
+        },
+        Number::None => Outcome {
+            some: false,
+            z: 0,
+            next: next,
+            left: left,
+        },
+    }
+}
+
+fn value_in(a: Outcome) -> Number
+    ensures { λ r. ⌜ IsValueIn a r ⌝ }
+{
+    if a.some {
+        return Number::Some(a.z);
+    }
+    Number::None
 }
 
 // Evaluates the expression at a position, which takes at most `left` words.
@@ -46,31 +76,31 @@ fn evaluate_within(words: &[u32], binding: &[u32], at: usize, left: usize) -> Ou
     let rest = payload(w);
     match kind(w) {
         7 => Outcome {
-            value: Number::Some(signed(w)),
+            some: true,
+            z: signed(w),
             next: at + 1,
             left: left - 1,
         },
-        8 => Outcome {
-            value: value_of(binding[rest as usize]),
-            next: at + 1,
-            left: left - 1,
-        },
+        8 => outcome_of(value_of(binding[rest as usize]), at + 1, left - 1),
         9 => match rest {
             0..=3 => evaluate_two(words, binding, rest, at + 1, left - 1),
             4 => evaluate_load(words, binding, at + 1, left - 1),
             _ => Outcome {
-                value: Number::None,
+                some: false,
+                z: 0,
                 next: at,
                 left: left,
             },
         },
         0..=6 | 10..=15 => Outcome {
-            value: Number::None,
+            some: false,
+            z: 0,
             next: at,
             left: left,
         },
         _ => Outcome {
-            value: Number::None,
+            some: false,
+            z: 0,
             next: at,
             left: left,
         },
@@ -84,13 +114,7 @@ fn evaluate_two(words: &[u32], binding: &[u32], code: u32, at: usize, left: usiz
 {
     let a = evaluate_within(words, binding, at, left);
     let b = evaluate_within(words, binding, a.next, a.left);
-    let x = a.value;
-    let y = b.value;
-    Outcome {
-        value: operate(code, x, y),
-        next: b.next,
-        left: b.left,
-    }
+    outcome_of(operate(code, value_in(a), value_in(b)), b.next, b.left)
 }
 
 // The load at the depth that the expression at a position tells, which takes at most `left` words.
@@ -99,12 +123,7 @@ fn evaluate_load(words: &[u32], binding: &[u32], at: usize, left: usize) -> Outc
     ensures { λ r. ⌜ IsLoaded (now (words .entry)) (now (binding .entry)) at left r ⌝ }
 {
     let a = evaluate_within(words, binding, at, left);
-    let depth = a.value;
-    Outcome {
-        value: apply_load(depth),
-        next: a.next,
-        left: a.left,
-    }
+    outcome_of(apply_load(value_in(a)), a.next, a.left)
 }
 
 // The value of an expression and the position after it; or no value, and that position.
@@ -119,11 +138,10 @@ fn evaluate_any(words: &[u32], binding: &[u32], at: usize) -> Evaluated
     ensures { λ r. ⌜ evaluated r ≡ evaluatedFrom (lent (now (binding .entry))) (readExpression (now (words .entry)) (length (now (binding .entry))) at) ⌝ }
 {
     let a = evaluate_within(words, binding, at, MOST_EXPRESSION_WORDS);
-    let x = a.value;
-    match x {
-        Number::Some(z) => Evaluated::Value(z, a.next),
-        Number::None => Evaluated::NoValue(a.next),
+    if a.some {
+        return Evaluated::Value(a.z, a.next);
     }
+    Evaluated::NoValue(a.next)
 }
 
 // Evaluates the expression that stands at a position. Variable n is the VALUE word n of the binding; it has no value where another word stands there.

@@ -9,6 +9,8 @@ use Rattle.numbers.proofs.number.operate.Reads as operate
 use Rattle.word.proofs.fields.kind.Reads as kind
 use Rattle.word.proofs.fields.payload.Reads as payload
 use Rattle.word.proofs.fields.signed.Reads as signed
+use Rattle.evaluation.proofs.evaluate.outcome_of.Reads as outcome-of
+use Rattle.evaluation.proofs.evaluate.value_in.Reads as value-in
 use Rattle.evaluation.proofs.evaluate.value_of.Reads as value-of
 use Rattle.evaluation.proofs.evaluate.evaluate_load.Reads as load
 use Rattle.evaluation.proofs.evaluate.evaluate_load.Kinds as load-kinds
@@ -56,16 +58,22 @@ within-below t = and 2 within-kinds.ps (falls 2 within-kinds.ps _<_ μ-within t)
 pub +evaluate-load+evaluate-two+evaluate-within-spec : {M : Type 1} → statement M
 +evaluate-load+evaluate-two+evaluate-within-spec =
     close μ-load μ-two μ-within
-    (λ t. load-lts.spec (within-below t, within.Post, apply-load.Asked, apply-load.Learnt) (load-at t) load.Post
+    (λ t. load-lts.spec (within-below t, within.Post, value-in.Asked, value-in.Learnt, apply-load.Asked, apply-load.Learnt, outcome-of.Asked, outcome-of.Learnt) (load-at t) load.Post
     (λ c. search operating)
-    (λ c. search operating)
-    (λ c. search operating))
-    (λ t. two-lts.spec (within-below t, within.Post, operate.Asked, operate.Learnt) (two-at t) two.Post
     (λ c. search operating)
     (λ c. search operating)
     (λ c. search operating)
     (λ c. search operating))
-    λ t. within-lts.spec (payload.Asked, payload.Learnt, kind.Asked, kind.Learnt, signed.Asked, signed.Learnt, value-of.Asked, value-of.Learnt, load-below t, load.Post, two-below t, two.Post) (within-at t) within.Post
+    (λ t. two-lts.spec (within-below t, within.Post, value-in.Asked, value-in.Learnt, operate.Asked, operate.Learnt, outcome-of.Asked, outcome-of.Learnt) (two-at t) two.Post
+    (λ c. search operating)
+    (λ c. search operating)
+    (λ c. search operating)
+    (λ c. search operating)
+    (λ c. search operating)
+    (λ c. search operating)
+    (λ c. search operating))
+    λ t. within-lts.spec (payload.Asked, payload.Learnt, kind.Asked, kind.Learnt, signed.Asked, signed.Learnt, value-of.Asked, value-of.Learnt, outcome-of.Asked, outcome-of.Learnt, load-below t, load.Post, two-below t, two.Post) (within-at t) within.Post
+    (λ c. search evaluating)
     (λ c. search evaluating)
     (λ c. search evaluating)
     (λ c. search evaluating)

@@ -9,6 +9,4 @@ evaluate-any-spec =
     (tie.spec
     (λ c κs. search outcomes)
     (λ c. search outcomes)
-    (λ c. search outcomes)
-    (λ c. search outcomes)
     (λ c. search outcomes))
