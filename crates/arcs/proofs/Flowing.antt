@@ -25,7 +25,7 @@ use Rattle.semantics.proofs.Tests.{false-true, either}
 use Rattle.evaluation.specs.Evaluate.{lent}
 use Rattle.net.specs.Places.{rangesFrom, placesAt, PlacesFit}
 use Rattle.net.specs.Standing.{HasArc}
-use Rattle.net.proofs.Standing.{placeOf, parts, coefficient-stands, components-stand, arc-short}
+use Rattle.net.proofs.Standing.{placeOf, coefficient-inside, parts, place-listed, components-read, coefficient-stands, components-stand}
 use Rattle.net.proofs.Placed.{ranges-at, fits-at}
 use Rattle.colours.proofs.Codes.{code-below}
 use Rattle.arcs.specs.declared.flow.Coefficient.{Coefficient}
@@ -59,11 +59,11 @@ module _ {ws ps : List ℕ} {v at : ℕ} (a : HasArc ws ps v at) where
   arc-inside = parts a .inside
 
   pub arc-fits : Fits w64 (at + 1)
-  arc-fits = let h = arc-short a in record { fits = omega arith }
+  arc-fits = let h = coefficient-inside ws (placesAt ws ps) v at (a .reads) .1 in record { fits = omega arith }
 
   module _ {q : ℕ} (g : q ≡ placeOf ws at) where
     pub place-there : q < length ps
-    place-there = rw g (parts a .there)
+    place-there = rw g (place-listed a)
 
     module _ (f : PlacesFit ws ps) where
       pub place-few : q < 64
@@ -122,14 +122,14 @@ module _ {ws ps : List ℕ} (bs : List ℕ) {at : ℕ} (a : HasArc ws ps (length
         -- the arc's flow, by its colour
         coloured-flow : flowAt ws ps bs at ≡ bind (colourAt ws bs (widthOf ws ps q) next) (λ c. some (record { place = q; amount = n; colour = c }))
         unfolding bind
-        coloured-flow = flow-read ∙ rw (coefficient .0, coefficient .1, g, parts a .components, parts a .place)
+        coloured-flow = flow-read ∙ rw (coefficient .0, coefficient .1, g, components-read a, parts a .place)
 
         pub moves : PlacesFit ws ps → {w : ℕ} {s : Packed} {m : Moved} → w ≡ payload (getD ws (getD ps q 0) 0) → IsPacked ws bs (getD ps q 0 + 1) w next s → m ≡ movedBy q n s → IsMoved ws ps bs at m
         unfolding bind
         moves f {s = s} e x i = rw i (record { says = by s (rw e at (x .packs)) })
           where
             h : q < length ps
-            h = rw g (parts a .there)
+            h = place-there a g
 
             -- the ranges that the colour was held against are those of the place
             place-ranges : rangesAt (placesAt ws ps) q ≡ rangesFrom ws (widthOf ws ps q) (getD ps q 0 + 1)

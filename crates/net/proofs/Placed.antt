@@ -5,25 +5,27 @@ use Prim.Native.Nat.{ℕ, zero, suc, _+_, min, _≤_, _<_}
 use mathlib.Core.Bool.{Bool, true, _&&_}
 use mathlib.Core.List.{List, [], _∷_, map, zip, zipWith}
 use native.Mathlib.Omega.{arith}
-use borrow.Author.Tests.{leb-true, leb-false}
+use borrow.Author.Tests.{leb-true, leb-false, eqb-true}
 use lib.Dec.{leb, eqb}
-use lib.ListN.{length, getD, take, length-map, length-take}
+use lib.ListN.{length, getD, take, drop, length-map, length-take}
+use lib.Seq.{drop-cons}
 use Rattle.semantics.specs.Refusal.{mostWords}
 use Rattle.semantics.specs.Lists.{Every}
 use Rattle.semantics.specs.Word.{kind, payload, bits, between}
 use Rattle.semantics.specs.Reading.{read, several, wordAt, word}
 use Rattle.semantics.specs.Net.{Place, Transition, Net, rangesAt}
 use Rattle.semantics.specs.ReadNet.{readRange, readPlace, readArc, readConjunct, readElement, transitionWord, readTransition, readNet}
-use Rattle.semantics.proofs.Tests.{false-true, and-right}
+use Rattle.semantics.proofs.Tests.{false-true, and-left, and-right}
 use Rattle.semantics.proofs.Members.{every-number}
 use Rattle.semantics.proofs.Readers.{Gives, gives, refusal, given, then-gives, demand-gives, cond-gives, as-read}
+use Rattle.semantics.proofs.Spans.{word-reads}
 use Rattle.semantics.proofs.Accepted.{read-sound}
 use Rattle.word.specs.Fields.{rangeWord}
 use Rattle.expression.specs.declared.read.Skipped.{Skipped}
 use Rattle.expression.specs.declared.read.Skipped.the-variants.{Next, Refused}
 use Rattle.net.specs.declared.index.NetIndex.{NetIndex}
 use Rattle.net.specs.declared.index.Parts.{Parts}
-use Rattle.net.specs.Skim.{changed, outline, skimTransition, width, NetOutline, netOutline, skimNet}
+use Rattle.net.specs.Skim.{changed, outline, width, NetOutline, netOutline, skimNet}
 use Rattle.net.specs.Index.{upTo, outlined, AreParts, netRead}
 use Rattle.net.specs.Places.{rangesFrom, widthAt, placeAt, placesAt, PlaceFits, PlacesFit}
 use Rattle.net.proofs.Skimming.{skim-transition, pairOf, widths-of, skim-net}
@@ -32,8 +34,9 @@ use Rattle.net.proofs.Located.{At, net-places}
 
 -- ── Words and ranges ──
 
--- what a word that is read at a position is, in the words
-pub record Here (ws : List ℕ) (at p next : ℕ) : Type 0 where
+-- what a word of a kind that is read at a position is, in the words
+pub record Here (ws : List ℕ) (k at p next : ℕ) : Type 0 where
+  pub kind : kind (getD ws at 0) ≡ k
   pub same : p ≡ payload (getD ws at 0)
   pub ends : next ≡ at + 1
   pub inside : at < length ws
@@ -51,12 +54,16 @@ ranges-length ws zero at = refl
 ranges-length ws (suc n) at = ap suc (ranges-length ws n (at + 1))
 
 module _ (ws : List ℕ) where
-  pub word-here : (k : ℕ) (ok : ℕ → Bool) (at : ℕ) → Gives (λ p next. Here ws at p next × (ok p ≡ true)) (word ws k ok at)
+  pub word-here : (k : ℕ) (ok : ℕ → Bool) (at : ℕ) → Gives (λ p next. Here ws k at p next × (ok p ≡ true)) (word ws k ok at)
   unfolding word wordAt
   word-here k ok at =
       then-gives {P = λ w next. (w ≡ getD ws at 0) × (next ≡ at + 1) × (at < length ws)} (cond-gives (leb (length ws) at) (λ e. refusal) λ e. cond-gives (leb mostWords at) (λ f. refusal) λ f. gives (refl, refl, leb-false (length ws) at e)) λ w next h.
       demand-gives (eqb (kind w) k && ok (payload w)) at λ e.
-      gives (record { same = ap payload (h .0); ends = h .1; inside = h .2 }, and-right (eqb (kind w) k) (ok (payload w)) e)
+      gives (record { kind = ap kind (sym (h .0)) ∙ eqb-true (kind w) k (and-left (eqb (kind w) k) (ok (payload w)) e); same = ap payload (h .0); ends = h .1; inside = h .2 }, and-right (eqb (kind w) k) (ok (payload w)) e)
+
+  -- the other way round: a word of that kind which passes is read
+  pub word-there : (k : ℕ) (ok : ℕ → Bool) (at : ℕ) → at < length ws → at < mostWords → kind (getD ws at 0) ≡ k → ok (payload (getD ws at 0)) ≡ true → word ws k ok at ≡ read (payload (getD ws at 0)) (at + 1)
+  word-there k ok at h l e f = word-reads ws k ok at (getD ws at 0) (drop (suc at) ws) (drop-cons ws at 0 h) l e f
 
   range-here : (at : ℕ) → Gives (λ r next. (r ≡ rangeWord (getD ws at 0)) × (next ≡ at + 1) × (at < length ws)) (readRange ws at)
   unfolding readRange

@@ -1,7 +1,8 @@
 -- Structures that stand at positions: behind the word of a conjunct or an arc its expressions stand one after the other, and each conjunct and arc of a
 -- transition that was read stands at its position. The law of a structure follows its reader line by line. Rests on Located and Placed.
-use mathlib.Core.Path.{_≡_, ap}
+use mathlib.Core.Path.{_≡_, refl, ap}
 use Prim.Native.Nat.{ℕ, suc, _+_, _≤_, _<_}
+use mathlib.Core.Bool.{true}
 use mathlib.Core.List.{List, [], _∷_, map}
 use native.Mathlib.Omega.{arith}
 use borrow.Author.Tests.{ltb-true}
@@ -9,19 +10,20 @@ use lib.Dec.{ltb}
 use lib.ListN.{length, getD}
 use Rattle.semantics.specs.Refusal.{mostWords}
 use Rattle.semantics.specs.Lists.{Every}
-use Rattle.semantics.specs.Word.{payload}
+use Rattle.semantics.specs.Word.{kind, payload, only}
 use Rattle.semantics.specs.Expression.{Expression}
-use Rattle.semantics.specs.Reading.{read, several}
+use Rattle.semantics.specs.Reading.{read, several, word}
 use Rattle.semantics.specs.Net.{Place, Arc, Conjunct, Transition, rangesAt}
 use Rattle.semantics.specs.ReadNet.{readExpression, relationOf, readArc, readConjunct, readTransition}
 use Rattle.semantics.proofs.Readers.{Gives, gives, given, then-gives, as-read}
 use Rattle.semantics.proofs.Spans.{then-read}
 use Rattle.expression.specs.Standing.{HasExpression, HasSeveral}
 use Rattle.expression.proofs.Laws.{expression-short}
+use Rattle.kinds.specs.Taken.{fitsKind}
 use Rattle.net.specs.Places.{widthAt, placesAt}
 use Rattle.net.specs.Standing.{HasConjunct, HasArc}
 use Rattle.net.proofs.Located.{At, transition-parts}
-use Rattle.net.proofs.Placed.{word-here, places-length, width-at}
+use Rattle.net.proofs.Placed.{word-here, word-there, places-length, width-at}
 
 -- ── Expressions ──
 
@@ -38,7 +40,9 @@ module _ {ws : List ℕ} {v n at : ℕ} (h : HasSeveral ws v (suc n) at) where
 -- ── A conjunct ──
 
 pub record Sides (ws : List ℕ) (v at : ℕ) (c : Conjunct) : Type 0 where
+  pub kind : kind (getD ws at 0) ≡ 6
   pub inside : at < length ws
+  pub coded : only 2 (payload (getD ws at 0)) ≡ true
   pub relation : c .relation ≡ relationOf (payload (getD ws at 0))
   pub mid : ℕ
   pub next : ℕ
@@ -48,10 +52,19 @@ pub record Sides (ws : List ℕ) (v at : ℕ) (c : Conjunct) : Type 0 where
 conjunct-sides : (ws : List ℕ) (v at : ℕ) → Gives (λ c next. Sides ws v at c) (readConjunct ws v at)
 unfolding readConjunct
 conjunct-sides ws v at =
-    then-gives (word-here ws 6 _ at) λ k start h.
+    then-gives (word-here ws 6 (λ k. only 2 k) at) λ k start h.
     then-gives (as-read (readExpression ws v start)) λ a mid p.
     then-gives (as-read (readExpression ws v mid)) λ b next q.
-    gives (record { inside = h .0 .inside; relation = ap relationOf (h .0 .same); mid = mid; next = next; left = rw (h .0 .ends) at p; right = q })
+    gives (record {
+      kind = h .0 .kind;
+      inside = h .0 .inside;
+      coded = rw (h .0 .same) at (h .1);
+      relation = ap relationOf (h .0 .same);
+      mid = mid;
+      next = next;
+      left = rw (h .0 .ends) at p;
+      right = q;
+    })
 
 module _ {ws : List ℕ} {v at : ℕ} (h : HasConjunct ws v at) where
   pub sides : Sides ws v at (h .conjunct)
@@ -71,51 +84,73 @@ module _ {ws : List ℕ} {v at : ℕ} (h : HasConjunct ws v at) where
   pub right-inside : sides .mid < length ws
   right-inside = let s = expression-short ws v (sides .mid) (sides .right) in omega arith
 
+  -- its word, read by itself
+  pub conjunct-word : word ws 6 (fitsKind 6) at ≡ read (payload (getD ws at 0)) (at + 1)
+  unfolding fitsKind
+  conjunct-word = let l = left-inside .1 in word-there ws 6 (fitsKind 6) at (sides .inside) (omega arith) (sides .kind) (sides .coded)
+
 -- ── An arc ──
 
 -- the number of its place is in its word
 abbrev pub placeOf : List ℕ → ℕ → ℕ
 placeOf ws at = payload (getD ws at 0)
 
-pub record ArcParts (ws ps : List ℕ) (v at : ℕ) (a : Arc) : Type 0 where
+pub record ArcParts (ws : List ℕ) (places : List Place) (v at : ℕ) (a : Arc) : Type 0 where
+  pub kind : kind (getD ws at 0) ≡ 5
   pub inside : at < length ws
   pub place : a .place ≡ placeOf ws at
-  pub there : placeOf ws at < length ps
+  pub there : placeOf ws at < length places
   pub mid : ℕ
   pub next : ℕ
   pub coefficient : readExpression ws v (at + 1) ≡ read (a .coefficient) mid
-  pub components : several (widthAt ws (getD ps (placeOf ws at) 0)) (readExpression ws v) mid ≡ read (a .components) next
+  pub components : several (length (rangesAt places (placeOf ws at))) (readExpression ws v) mid ≡ read (a .components) next
 
-arc-parts : (ws ps : List ℕ) (v at : ℕ) → Gives (λ a next. ArcParts ws ps v at a) (readArc ws (placesAt ws ps) v at)
+arc-gives : (ws : List ℕ) (places : List Place) (v at : ℕ) → Gives (λ a next. ArcParts ws places v at a) (readArc ws places v at)
 unfolding readArc
-arc-parts ws ps v at =
-    then-gives (word-here ws 5 (λ q. ltb q (length (placesAt ws ps))) at) λ q start h.
+arc-gives ws places v at =
+    then-gives (word-here ws 5 (λ q. ltb q (length places)) at) λ q start h.
     then-gives (as-read (readExpression ws v start)) λ c mid p.
-    then-gives (as-read (several (length (rangesAt (placesAt ws ps) q)) (readExpression ws v) mid)) λ es next s.
-    let t : q < length ps = rw (places-length ws ps) at (ltb-true q (length (placesAt ws ps)) (h .1)) in
+    then-gives (as-read (several (length (rangesAt places q)) (readExpression ws v) mid)) λ es next s.
     gives (record {
+      kind = h .0 .kind;
       inside = h .0 .inside;
       place = h .0 .same;
-      there = rw (h .0 .same) at t;
+      there = rw (h .0 .same) at (ltb-true q (length places) (h .1));
       mid = mid;
       next = next;
       coefficient = rw (h .0 .ends) at p;
-      components = rw (width-at ws ps q t, h .0 .same) at s;
+      components = rw (h .0 .same) at s;
     })
 
+module _ (ws : List ℕ) (places : List Place) (v at : ℕ) {a : Arc} {next : ℕ} (e : readArc ws places v at ≡ read a next) where
+  pub arc-parts : ArcParts ws places v at a
+  arc-parts = given (arc-gives ws places v at) e
+
+  -- its coefficient begins in the words
+  pub coefficient-inside : (at + 1 < length ws) × (at + 2 ≤ mostWords)
+  coefficient-inside = let s = expression-short ws v (at + 1) (arc-parts .coefficient) in (omega arith, omega arith)
+
+  -- its word, read by itself
+  pub arc-word : word ws 5 (fitsKind 5) at ≡ read (placeOf ws at) (at + 1)
+  unfolding fitsKind
+  arc-word = let l = coefficient-inside .1 in word-there ws 5 (fitsKind 5) at (arc-parts .inside) (omega arith) (arc-parts .kind) refl
+
+-- where the places of the net are at the positions ps
 module _ {ws ps : List ℕ} {v at : ℕ} (h : HasArc ws ps v at) where
-  pub parts : ArcParts ws ps v at (h .arc)
-  parts = given (arc-parts ws ps v at) (h .reads)
+  pub parts : ArcParts ws (placesAt ws ps) v at (h .arc)
+  parts = arc-parts ws (placesAt ws ps) v at (h .reads)
+
+  pub place-listed : placeOf ws at < length ps
+  place-listed = rw (places-length ws ps) at (parts .there)
+
+  pub components-read : several (widthAt ws (getD ps (placeOf ws at) 0)) (readExpression ws v) (parts .mid) ≡ read (h .arc .components) (parts .next)
+  components-read = rw (width-at ws ps (placeOf ws at) place-listed) at (parts .components)
 
   pub coefficient-stands : HasExpression ws v (at + 1)
   coefficient-stands = record { tree = h .arc .coefficient; next = parts .mid; reads = parts .coefficient }
 
   pub components-stand : HasSeveral ws v (widthAt ws (getD ps (placeOf ws at) 0)) (parts .mid)
-  components-stand = record { trees = h .arc .components; next = parts .next; reads = parts .components }
-
-  -- its coefficient begins in the words
-  pub arc-short : at + 2 ≤ mostWords
-  arc-short = let s = expression-short ws v (at + 1) (parts .coefficient) in omega arith
+  components-stand = record { trees = h .arc .components; next = parts .next; reads = components-read }
 
 -- ── The parts of a transition ──
 

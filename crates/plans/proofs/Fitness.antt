@@ -7,19 +7,18 @@ use mathlib.Core.Bool.{Bool, true, false, cond, not, _&&_, _||_, and-true}
 use mathlib.Core.List.{List, [], _∷_, _++_, map}
 use mathlib.Core.Option.{Option, none, some, Option·map}
 use native.Mathlib.Omega.{arith}
-use borrow.Author.Tests.{ltb-true, ltb-false, eq-eqb, ne-eqb, le-leb, lt-leb}
+use borrow.Author.Tests.{ltb-true, ltb-false, ne-eqb, le-leb, lt-leb}
 use lib.Dec.{ltb, eqb, leb}
 use lib.ListN.{length, getD, getElem?}
 use Rattle.semantics.specs.Refusal.{mostWords}
 use Rattle.semantics.specs.Lists.{Every}
 use Rattle.semantics.specs.Word.{kind, payload, signed, between}
 use Rattle.semantics.specs.Expression.{Expression, constant, variable, binary, load, everyVariable}
-use Rattle.semantics.specs.Reading.{Reading, read, refused, then, Reader, demand, several, wordAt, word}
-use Rattle.semantics.specs.Net.{Place, Arc, equal, unequal, less, atMost, Conjunct, Sort, match, solve, range, Element, Transition, rangesAt}
+use Rattle.semantics.specs.Reading.{read, refused, Reader, several, wordAt, word}
+use Rattle.semantics.specs.Net.{Place, Arc, equal, unequal, less, atMost, Conjunct, Sort, match, solve, range, Element, Transition}
 use Rattle.semantics.specs.ReadNet.{readExpression, readArc, relationOf, readConjunct, readElement, readTransition}
 use Rattle.semantics.specs.Plan.{loneUnbound, positiveConstant, solvedBy, eitherSide, isEquation, solution, solutionBinds, matchBinds, solveBinds, newlyBound, member, fitOr, planFault, plansFault}
-use Rattle.semantics.proofs.Readers.{Gives, gives, given, then-gives, as-read}
-use Rattle.semantics.proofs.Tests.{false-true, either, Every-at}
+use Rattle.semantics.proofs.Tests.{either, Every-at}
 use Rattle.semantics.proofs.Accepted.{SoundExpression, SoundArc, SoundConjunct, SoundTransition}
 use Rattle.semantics.proofs.Partial.{member-append}
 use Rattle.semantics.proofs.Members.{at-member, map-at}
@@ -30,18 +29,17 @@ use Rattle.expression.proofs.Laws.{expression-short, variables-flat, first-word
 use Rattle.kinds.specs.Taken.{fitsKind}
 use Rattle.net.specs.Skim.{changed, outline, skimTransition, width}
 use Rattle.net.proofs.Skimming.{widths-at, skim-transition}
+use Rattle.net.specs.Standing.{HasConjunct}
 use Rattle.net.proofs.Located.{At, Parts, transition-parts}
+use Rattle.net.proofs.Placed.{word-there}
+use Rattle.net.proofs.Standing.{sides, conjunct-word, placeOf, arc-parts, arc-word}
 use Rattle.plans.specs.Fitness.{atMember, bindsAt, faultFrom, faultAmong}
 use Rattle.elements.proofs.Binding.{unless}
 use Rattle.elements.specs.Binds.{after, loneAt, loneFrom, matchAt, allBound, firstOf, solveAt}
 
 -- ── A variable alone ──
 
--- the word of a kind without a test of its own at a position that exists
-word-here : (ws : List ℕ) (k at : ℕ) → ((p : ℕ) → fitsKind k p ≡ true) → at < length ws → at < mostWords → kind (getD ws at 0) ≡ k → word ws k (fitsKind k) at ≡ read (payload (getD ws at 0)) (at + 1)
-unfolding word wordAt
-word-here ws k at all h i e = rw (lt-leb (length ws) at h, lt-leb mostWords at i, e, eq-eqb k k refl, all (payload (getD ws at 0)))
-
+-- a word of another kind is none of this one
 word-other : (ws : List ℕ) (k at : ℕ) → at < length ws → at < mostWords → (kind (getD ws at 0) ≡ k → ⊥) → word ws k (fitsKind k) at ≡ refused 3 at
 unfolding word wordAt
 word-other ws k at h i e = rw (lt-leb (length ws) at h, lt-leb mostWords at i, ne-eqb (kind (getD ws at 0)) k e)
@@ -75,7 +73,7 @@ module _ (ws : List ℕ) (v at : ℕ) (e : Expression) (next : ℕ) (r : readExp
       by (variable n) h b =
           let s = short in
           let p : ltb (payload (getD ws at 0)) v ≡ true = rw (← h .1) b in
-          rw (word-here ws 8 at (λ p. refl) (omega arith) (omega arith) (h .0), p, h .1) (unless (payload (getD ws at 0)) (isBound (payload (getD ws at 0))))
+          rw (word-there ws 8 (fitsKind 8) at (omega arith) (omega arith) (h .0) refl, p, h .1) (unless (payload (getD ws at 0)) (isBound (payload (getD ws at 0))))
       by (binary o x y) h b = other (nine h)
       by (load x) h b = other (nine h)
 
@@ -104,39 +102,7 @@ lone-from ws v isBound (suc k) at (e ∷ es) next r b =
     let s = several-first (readExpression ws v) k at e es next r in
     rw (lone-at ws v at e (s .0) (s .1) (b .0) isBound, s .1, lone-from ws v isBound k (s .0) es next (s .2) (b .1)) (sym (lone-cons isBound e es))
 
--- a word that passes a test passes a weaker one
-looser : (ws : List ℕ) (k : ℕ) (ok weak : ℕ → Bool) → ((p : ℕ) → weak p ≡ true) → (at p next : ℕ) → word ws k ok at ≡ read p next → word ws k weak at ≡ read p next
-unfolding word
-looser ws k ok weak all at p next e = by (wordAt ws at) e
-  where
-    tested : (w mid : ℕ) (t : Bool) → demand (t && ok (payload w)) at (read (payload w) mid) ≡ read p next → demand (t && weak (payload w)) at (read (payload w) mid) ≡ read p next
-    tested w mid false f = false-true (cc)
-    tested w mid true f = rw (all (payload w)) (passed (ok (payload w)) f)
-      where
-        passed : (t : Bool) → demand t at (read (payload w) mid) ≡ read p next → read (payload w) mid ≡ read p next
-        passed true g = g
-        passed false g = false-true (cc)
-
-    by : (x : Reading ℕ) → then x (λ w next. demand (eqb (kind w) k && ok (payload w)) at (read (payload w) next)) ≡ read p next → then x (λ w next. demand (eqb (kind w) k && weak (payload w)) at (read (payload w) next)) ≡ read p next
-    by (refused i j) f = false-true (cc)
-    by (read w mid) f = tested w mid (eqb (kind w) k) f
-
 -- ── Match ──
-
--- the parts of an arc that was read
-record ArcParts (ws : List ℕ) (places : List Place) (v : ℕ) (a : Arc) : Type 0 where
-  from : ℕ
-  mid : ℕ
-  end : ℕ
-  is-arc : word ws 5 (fitsKind 5) (a .position) ≡ read (a .place) from
-  is-coefficient : readExpression ws v from ≡ read (a .coefficient) mid
-  are-components : several (getD (map width places) (a .place) 0) (readExpression ws v) mid ≡ read (a .components) end
-
-arc-parts : (ws : List ℕ) (places : List Place) (v at : ℕ) → Gives (λ (a : Arc) (next : ℕ). ArcParts ws places v a) (readArc ws places v at)
-unfolding readArc fitsKind
-arc-parts ws places v at =
-    then-gives (as-read (word ws 5 (λ q. ltb q (length places)) at)) (λ q n h. then-gives (as-read (readExpression ws v n)) (λ c m i. then-gives (as-read (several (length (rangesAt places q)) (readExpression ws v) m)) (λ es l j.
-    gives (record { from = n; mid = m; end = l; is-arc = looser ws 5 (λ q. ltb q (length places)) (fitsKind 5) (λ p. refl) at q n h; is-coefficient = i; are-components = rw (← widths-at places q) j }))))
 
 -- a constant's bits say whether it is at least 1
 positive-bits : (p : ℕ) → between 1 8191 p ≡ positiveConstant (constant (signed p))
@@ -172,7 +138,7 @@ module _ (ws : List ℕ) (v from : ℕ) (k : ℕ → List ℕ) where
       by (constant z) r h =
           let s = expression-short ws v from r in
           let n = constant-alone ws v from r (h .0) .1 in
-          rw (word-here ws 7 from (λ p. refl) (omega arith) (omega arith) (h .0), n, h .2, ← positive-bits (payload (getD ws from 0)))
+          rw (word-there ws 7 (fitsKind 7) from (omega arith) (omega arith) (h .0) refl, n, h .2, ← positive-bits (payload (getD ws from 0)))
       by (variable n) r h = other (variable n) r (eight (h .0))
       by (binary o x y) r h = other (binary o x y) r (nine h)
       by (load x) r h = other (load x) r (nine h)
@@ -180,28 +146,14 @@ module _ (ws : List ℕ) (v from : ℕ) (k : ℕ → List ℕ) where
 match-at : (ws : List ℕ) (places : List Place) (v : ℕ) (isBound : ℕ → Bool) (a : Arc) → At (readArc ws places v) (λ (a : Arc). a .position) a → Every (SoundExpression v) (a .components) → matchAt ws (map width places) v isBound (a .position) ≡ cond (positiveConstant (a .coefficient)) (loneUnbound isBound (a .components)) []
 unfolding matchAt
 match-at ws places v isBound a here b =
-    let p = given (arc-parts ws places v (a .position)) (here .reads) in
-    rw (p .is-arc)
-    (coefficient-at ws v (p .from) (loneFrom ws v isBound (getD (map width places) (a .place) 0)) (a .coefficient) (p .mid) (p .is-coefficient)
-    ∙ ap (λ (ns : List ℕ). cond (positiveConstant (a .coefficient)) ns []) (lone-from ws v isBound (getD (map width places) (a .place) 0) (p .mid) (a .components) (p .end) (p .are-components) b))
+    let p = arc-parts ws places v (a .position) (here .reads) in
+    let q = placeOf ws (a .position) in
+    let w = getD (map width places) q 0 in
+    rw (arc-word ws places v (a .position) (here .reads))
+    (coefficient-at ws v (a .position + 1) (loneFrom ws v isBound w) (a .coefficient) (p .mid) (p .coefficient)
+    ∙ ap (λ (ns : List ℕ). cond (positiveConstant (a .coefficient)) ns []) (lone-from ws v isBound w (p .mid) (a .components) (p .next) (rw (← widths-at places q) (p .components)) b))
 
 -- ── Solve ──
-
-record ConjunctParts (ws : List ℕ) (v : ℕ) (c : Conjunct) : Type 0 where
-  code : ℕ
-  from : ℕ
-  mid : ℕ
-  end : ℕ
-  is-conjunct : word ws 6 (fitsKind 6) (c .position) ≡ read code from
-  is-relation : relationOf code ≡ c .relation
-  is-left : readExpression ws v from ≡ read (c .left) mid
-  is-right : readExpression ws v mid ≡ read (c .right) end
-
-conjunct-parts : (ws : List ℕ) (v at : ℕ) → Gives (λ (c : Conjunct) (next : ℕ). ConjunctParts ws v c) (readConjunct ws v at)
-unfolding readConjunct fitsKind
-conjunct-parts ws v at =
-    then-gives (as-read (word ws 6 (fitsKind 6) at)) (λ k n h. then-gives (as-read (readExpression ws v n)) (λ a m i. then-gives (as-read (readExpression ws v m)) (λ b l j.
-    gives (record { code = k; from = n; mid = m; end = l; is-conjunct = h; is-relation = refl; is-left = i; is-right = j }))))
 
 one-or-none : Option ℕ → List ℕ
 one-or-none none = []
@@ -250,9 +202,11 @@ equation-code k = by (eqb k 0) (eqb k 1) (eqb k 2)
 solve-at : (ws : List ℕ) (v : ℕ) (isBound : ℕ → Bool) (c : Conjunct) → At (readConjunct ws v) (λ (c : Conjunct). c .position) c → SoundExpression v (c .left) → SoundExpression v (c .right) → solveAt ws v isBound (c .position) ≡ solutionBinds (solution isBound c)
 unfolding solveAt solution allBound
 solve-at ws v isBound c here bl br =
-    let p = given (conjunct-parts ws v (c .position)) (here .reads) in
-    let q = ap isEquation (sym (p .is-relation)) ∙ equation-code (p .code) in
-    rw (p .is-conjunct, p .is-left, p .is-right, ← variables-flat ws v (p .from) (p .is-left) isBound, ← variables-flat ws v (p .mid) (p .is-right) isBound, lone-at ws v (p .from) (c .left) (p .mid) (p .is-left) bl isBound, lone-at ws v (p .mid) (c .right) (p .end) (p .is-right) br isBound, solved-lone isBound (c .left) (c .right), solved-lone isBound (c .right) (c .left), first-either (solvedBy isBound (c .left) (c .right)) (solvedBy isBound (c .right) (c .left)) (c .left) (c .right), q) (by (eqb (p .code) 0))
+    let h : HasConjunct ws v (c .position) = record { conjunct = c; next = here .next; reads = here .reads } in
+    let p = sides h in
+    let from = c .position + 1 in
+    let q = ap isEquation (p .relation) ∙ equation-code (payload (getD ws (c .position) 0)) in
+    rw (conjunct-word h, p .left, p .right, ← variables-flat ws v from (p .left) isBound, ← variables-flat ws v (p .mid) (p .right) isBound, lone-at ws v from (c .left) (p .mid) (p .left) bl isBound, lone-at ws v (p .mid) (c .right) (p .next) (p .right) br isBound, solved-lone isBound (c .left) (c .right), solved-lone isBound (c .right) (c .left), first-either (solvedBy isBound (c .left) (c .right)) (solvedBy isBound (c .right) (c .left)) (c .left) (c .right), q) (by (eqb (payload (getD ws (c .position) 0)) 0))
   where
     by : (t : Bool) → cond t (solutionBinds (eitherSide (solvedBy isBound (c .left) (c .right)) (solvedBy isBound (c .right) (c .left)) (c .left) (c .right))) [] ≡ solutionBinds (cond t (eitherSide (solvedBy isBound (c .left) (c .right)) (solvedBy isBound (c .right) (c .left)) (c .left) (c .right)) none)
     by true = refl
