@@ -1,10 +1,10 @@
 -- The arc that leaves behind a match do not look up. Its words say that it takes one token, that its components are constants and lone variables, and that no
 -- other input arc has its place; so the theorem of semantics/proofs/Spared says that a leaf's binding is enabled exactly where it is without that arc.
-use mathlib.Core.Path.{_≡_, refl, sym, ap, _∙_, subst, fun-ext}
+use mathlib.Core.Path.{_≡_, refl, sym, ap, _∙_, subst}
 use mathlib.Core.Logic.{_⊎_, inl, inr}
 use mathlib.Core.Bool.{Bool, true, false}
-use mathlib.Core.List.{List, [], _∷_, _++_, map, List·Memᴰ, Memᴰ·of-map}
-use mathlib.Core.Option.{Option, none, some}
+use mathlib.Core.List.{List, [], _∷_, map, Memᴰ·of-map}
+use mathlib.Core.Option.{none, some}
 use Prim.Native.Nat.{ℕ, zero, suc, _+_, _≤_, _<_}
 use native.Mathlib.Omega.{arith}
 use borrow.Author.Tests.{leb-true, ltb-true, ltb-false}
@@ -15,30 +15,30 @@ use lib.Seq.{getD-take}
 use Rattle.semantics.specs.Lists.{Every}
 use Rattle.semantics.specs.Word.{kind, payload, signed}
 use Rattle.semantics.specs.Expression.{Expression, constant, variable, binary, load, houseTable, value, valuesOf, bound}
-use Rattle.semantics.specs.Reading.{read, word, several}
-use Rattle.semantics.specs.Net.{Place, Arc, match, rangesAt}
+use Rattle.semantics.specs.Reading.{read}
+use Rattle.semantics.specs.Net.{Arc, match, rangesAt}
 use Rattle.semantics.specs.ReadNet.{readExpression, readArc}
 use Rattle.semantics.specs.Order.{tuples}
-use Rattle.semantics.specs.Marking.{countsOf}
 use Rattle.semantics.specs.Enabling.{isEnabled}
 use Rattle.semantics.specs.Tries.{Partial, partly, coloursOn, matched, tries}
 use Rattle.semantics.specs.Calls.{Situation}
-use Rattle.semantics.proofs.Tests.{either, selected}
-use Rattle.semantics.proofs.Members.{number-member, length-at}
+use Rattle.semantics.proofs.Tests.{either, selected, Every-of}
+use Rattle.semantics.proofs.Members.{number-member, length-at, member-at}
 use Rattle.semantics.proofs.Tuples.{tuples-in}
 use Rattle.semantics.proofs.Partial.{range-length}
-use Rattle.semantics.proofs.Spans.{then-read, word-read, drop-first}
 use Rattle.semantics.proofs.Spared.{taking, spared, Lone, matched-values}
-use Rattle.expression.proofs.Spelled.{HeadWord, Spelled, spelled}
+use Rattle.expression.proofs.Laws.{constant-alone}
+use Rattle.net.specs.Places.{placesAt}
 use Rattle.net.proofs.Located.{At, transition-parts}
+use Rattle.net.proofs.Standing.{ArcParts, arc-parts, coefficient-inside}
 use Rattle.elements.specs.declared.element.Element.{Element as CodeElement}
 use Rattle.elements.specs.declared.element.Sort.the-variants.{Match}
 use Rattle.elements.specs.Bound.{sorted}
 use Rattle.evaluation.specs.Evaluate.{lent}
 use Rattle.occurrence.specs.Answers.{IsEnabledAt}
 use Rattle.occurrence.proofs.Reading.{arcs-told, guard-told}
-use Rattle.spares.specs.Spare.{without, Within, AreLone, Spares, IsSpare}
-use Rattle.spares.proofs.Sparing.{Split, split, without-past, without-map}
+use Rattle.spares.specs.Spare.{without, Within, Spares, IsSpare}
+use Rattle.spares.proofs.Sparing.{split, without-past, without-map}
 use Rattle.tries.specs.Partial.{partialOf}
 use Rattle.arrivals.specs.declared.step.Step.{Step}
 use Rattle.arrivals.specs.Step.{Begin, Told, IsArrival}
@@ -48,45 +48,9 @@ use Rattle.search.proofs.Values.{full-bound}
 
 -- ── Words ──
 
--- an arc that was read: its place is in the word at its position, and its coefficient begins behind it
-record ArcRead (ws : List ℕ) (v at : ℕ) (a : Arc) : Type 0 where
-  pub kind : kind (getD ws at 0) ≡ 5
-  pub place : a .place ≡ payload (getD ws at 0)
-  pub after : ℕ
-  pub coefficient : readExpression ws v (at + 1) ≡ read (a .coefficient) after
-
-arc-read : (ws : List ℕ) (places : List Place) (v at : ℕ) (a : Arc) (next : ℕ) → readArc ws places v at ≡ read a next → ArcRead ws v at a
-unfolding readArc
-arc-read ws places v at a next h =
-    then-read (word ws 5 _ at) _ a next h λ q mid x y.
-    then-read (readExpression ws v mid) _ a next y λ c n₁ x₁ y₁.
-    then-read (several (length (rangesAt places q)) (readExpression ws v) n₁) _ a next y₁ λ es n₂ x₂ y₂.
-    let f : _≡_ {A = Arc} (record { position = at; place = q; coefficient = c; components = es }) a = cc in
-    let r = word-read ws 5 _ at q mid x in
-    let t = drop-first ws at (r .0) _ (r .1 .split) in
-    record {
-      kind = ap kind (t .1) ∙ r .2;
-      place = ap (λ (x : Arc). x .place) (sym f) ∙ sym (r .3) ∙ ap payload (sym (t .1));
-      after = n₁;
-      coefficient = ap (readExpression ws v) (sym (r .1 .after)) ∙ x₁ ∙ ap (λ (u : Expression). read u n₁) (ap (λ (x : Arc). x .coefficient) f);
-    }
-
 -- the word 0x70000001 is the constant 1
 one-read : (ws : List ℕ) (v at : ℕ) (e : Expression) (next : ℕ) → readExpression ws v at ≡ read e next → getD ws at 0 ≡ 0x70000001 → e ≡ constant (pos 1)
-one-read ws v at e next h w = by e (spelled ws v at h)
-  where
-    by : (e : Expression) → Spelled ws (at + 15) at e next → e ≡ constant (pos 1)
-    by (constant z) x = ap constant (x .1 .2 ∙ ap (λ (u : ℕ). signed (payload u)) w)
-    by (variable n) x = let k = x .1 .0 in absurd (omega arith)
-    by (binary o a b) x = let k = x .1 in absurd (omega arith)
-    by (load a) x = let k = x .1 in absurd (omega arith)
-
--- the first word of an expression stands in the words
-expression-inside : (ws : List ℕ) (stop at : ℕ) (e : Expression) (next : ℕ) → Spelled ws stop at e next → at < length ws
-expression-inside ws stop at (constant z) next x = x .0 .in-words
-expression-inside ws stop at (variable n) next x = x .0 .in-words
-expression-inside ws stop at (binary o a b) next x = x .0 .in-words
-expression-inside ws stop at (load a) next x = x .0 .in-words
+one-read ws v at e next h w = constant-alone ws v at h (ap kind w) .0 ∙ ap (λ (u : ℕ). constant (signed (payload u))) w
 
 -- components whose first words are not those of operators
 begin-lone : (ps : List ℕ) (es : List Expression) → Begin ps es → ((i : ℕ) → i < length ps → kind (getD ps i 0) ≡ 9 → ⊥) → Every Lone es
@@ -101,14 +65,10 @@ begin-lone (p ∷ ps) (load x ∷ es) b f = absurd (f zero (omega arith) (b .0))
 -- ── All but one ──
 
 module _ {A : Type 0} (P : A → Type 0) where
-  every-number : (l : List A) → ((j : ℕ) (x : A) → getElem? l j ≡ some x → P x) → Every P l
-  every-number [] f = tt
-  every-number (x ∷ xs) f = (f zero x refl, every-number xs (λ j y h. f (suc j) y h))
-
   pub every-without : (l : List A) (k : ℕ) → ((j : ℕ) (x : A) → getElem? l j ≡ some x → (j ≡ k → ⊥) → P x) → Every P (without l k)
   unfolding without
   every-without [] k f = tt
-  every-without (x ∷ xs) zero f = every-number xs (λ j y h. f (suc j) y h (λ e. absurd (omega arith)))
+  every-without (x ∷ xs) zero f = Every-of P xs (λ y m. let n = member-at m in f (suc (n .0)) y (n .1) (λ e. absurd (omega arith)))
   every-without (x ∷ xs) (suc k) f = (f zero x refl (λ e. absurd (omega arith)), every-without xs k (λ j y h n. f (suc j) y h (λ e. n (omega arith))))
 
   pub every-but : (l : List A) (k : ℕ) → Every P l → Every P (without l k)
@@ -120,15 +80,15 @@ module _ {A : Type 0} (P : A → Type 0) where
 -- ── A leaf behind a match ──
 
 module _ {ws ps : List ℕ} {position v : ℕ} {inputs conjuncts elements ms begins : List ℕ} {s : Situation} (W : World ws ps position v inputs conjuncts elements ms begins s) where
-  reading : (k : ℕ) (a : Arc) → getElem? (s .transition .inputs) k ≡ some a → ArcRead ws v (getD inputs k 0) a
-  reading k a e = let h = arc-here W k a e in arc-read ws _ v (getD inputs k 0) a (h .0) (h .1)
+  reading : (k : ℕ) (a : Arc) → getElem? (s .transition .inputs) k ≡ some a → ArcParts ws (placesAt ws ps) v (getD inputs k 0) a
+  reading k a e = arc-parts ws (placesAt ws ps) v (getD inputs k 0) (arc-here W k a e .1)
 
   -- every input arc stands in the net, with its coefficient behind it
   pub inputs-within : Within ws inputs
   inputs-within = record { each = λ i h. by i (length-at (s .transition .inputs) i (rw (W .arcs, length-map (s .transition .inputs) (λ (a : Arc). a .position)) at h)) }
     where
       by : (i : ℕ) → (a : Arc) × (getElem? (s .transition .inputs) i ≡ some a) → getD inputs i 0 + 1 < length ws
-      by i (a, e) = let r = reading i a e in expression-inside ws _ (getD inputs i 0 + 1) (a .coefficient) (r .after) (spelled ws v (getD inputs i 0 + 1) (r .coefficient))
+      by i (a, e) = coefficient-inside ws (placesAt ws ps) v (getD inputs i 0) (arc-here W i a e .1) .0
 
   module _ (k : ℕ) (a : Arc) (named : getElem? (s .transition .inputs) k ≡ some a) {parts : List ℕ} {width : ℕ} (S : Spares ws inputs parts width k) where
     -- no other input arc is of its place
@@ -139,7 +99,7 @@ module _ {ws ps : List ℕ} {position v : ℕ} {inputs conjuncts elements ms beg
         S .alone .others j (arc-inside W j x e) n (let r₀ = r .kind in let r₁ = r .place in let q₀ = q .kind in let q₁ = q .place in omega arith))
 
     takes-one : a .coefficient ≡ constant (pos 1)
-    takes-one = let r = reading k a named in one-read ws v (getD inputs k 0 + 1) (a .coefficient) (r .after) (r .coefficient) (S .one)
+    takes-one = let r = reading k a named in one-read ws v (getD inputs k 0 + 1) (a .coefficient) (r .mid) (r .coefficient) (S .one)
 
     -- the colour of a try is what the arc takes under the binding that the try leads to, and it is marked
     module _ (begin : Begin (take width parts) (a .components)) (p q : Partial) (zs : List ℤ) (full : q ≡ map some zs) (l : length p ≡ length (s .transition .variables)) (i : ℕ) (h : i < length (tries houseTable (s .net) (s .transition) (s .counts) (match k) p)) (on : getD (tries houseTable (s .net) (s .transition) (s .counts) (match k) p) i none ≡ some q) where
