@@ -4,24 +4,16 @@ use mathlib.Core.List.{List, [], _∷_, _++_, append-assoc, append-nil}
 use Prim.Native.Nat.{ℕ, suc, _+_, _-_, _≤_, _<_}
 use native.Mathlib.Omega.{arith}
 use lib.ListN.{length, getD, set, take, length-set}
-use Rattle.semantics.specs.Expression.{Expression, constant, variable, binary, load}
+use Rattle.semantics.specs.Expression.{Expression}
 use Rattle.semantics.specs.Reading.{read, several}
 use Rattle.semantics.specs.ReadNet.{readExpression}
 use Rattle.semantics.proofs.Spans.{refused-read, several-split}
 use Rattle.expression.specs.declared.read.Skipped.{Skipped}
 use Rattle.expression.specs.declared.read.Skipped.the-variants.{Next, Refused}
 use Rattle.expression.specs.Skip.{forget, skipped, Ahead, Skips}
-use Rattle.expression.proofs.Spelled.{HeadWord, headOfTree, spelled}
-use Rattle.expression.proofs.Laws.{passed-read, passed-refused}
+use Rattle.expression.proofs.Laws.{first-word, passed-read, passed-refused}
 use Rattle.net.proofs.Loops.{take-set}
 use Rattle.arrivals.specs.Step.{Begin, IsParts}
-
--- the first word of an expression that was read
-pub head-here : (ws : List ℕ) (v at : ℕ) (e : Expression) (next : ℕ) → readExpression ws v at ≡ read e next → HeadWord (getD ws at 0) (headOfTree e)
-head-here ws v at (constant z) next h = spelled ws v at h .1
-head-here ws v at (variable n) next h = spelled ws v at h .1
-head-here ws v at (binary o a b) next h = spelled ws v at h .1
-head-here ws v at (load a) next h = spelled ws v at h .1
 
 -- the words of i expressions are written, and the rest is ahead
 pub record Parting (ws : List ℕ) (v at n i next : ℕ) (parts : List ℕ) : Type 0 where
@@ -72,7 +64,7 @@ module _ {ws : List ℕ} {v at n i next : ℕ} {parts : List ℕ} (a : Parting w
             let u = passed-read (readExpression ws v next) s h d in
             let g : read (t .first) (t .mid) ≡ read (u .0) p = sym (t .reads) ∙ u .1 in
             let m : t .mid ≡ p = cc in
-            let w = head-here ws v next (t .first) (t .mid) (t .reads) in (
+            let w = first-word ws v next (t .reads) in (
               t .others,
               rw (← m) (t .rest),
               λ ps b.
