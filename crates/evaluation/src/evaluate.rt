@@ -39,6 +39,7 @@ struct Outcome {
     left: usize,
 }
 
+// Tells a value that may be missing by the two fields.
 fn outcome_of(x: Number, next: usize, left: usize) -> Outcome
     ensures { λ r. ⌜ Made x next left r ⌝ }
 {
@@ -58,6 +59,7 @@ fn outcome_of(x: Number, next: usize, left: usize) -> Outcome
     }
 }
 
+// Hands the value of an outcome to what computes with numbers.
 fn value_in(a: Outcome) -> Number
     ensures { λ r. ⌜ IsValueIn a r ⌝ }
 {
