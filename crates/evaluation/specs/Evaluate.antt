@@ -64,19 +64,19 @@ pub record StandTwo (ws : List ℕ) (v at left : ℕ) : Type 0 where
   pub reads-second : expressionIn rounds ws v (at + left) mid ≡ read second next
 
 -- the value that an outcome has, if any
-abbrev pub valueIn : Outcome → Option ℤ
-valueIn r = given (r .some) (r .z)
+abbrev pub outcomeValue : Outcome → Option ℤ
+outcomeValue r = given (r .some) (r .z)
 
 abbrev pub outcome : Outcome → Valuation
-outcome r = valued (valueIn r) (r .next)
+outcome r = valued (outcomeValue r) (r .next)
 
 -- that value as a number
 pub record IsValueIn (r : Outcome) (x : Number) : Type 0 where
-  pub same : number x ≡ valueIn r
+  pub same : number x ≡ outcomeValue r
 
 -- an outcome made of a value that may be missing
 pub record Made (x : Number) (next left : ℕ) (r : Outcome) : Type 0 where
-  pub value : valueIn r ≡ number x
+  pub value : outcomeValue r ≡ number x
   pub next-is : r .next ≡ next
   pub left-is : r .left ≡ left
 

@@ -36,7 +36,7 @@ use Rattle.net.specs.Standing.{HasConjunct}
 use Rattle.net.proofs.Standing.{sides, right-stands, right-inside}
 use Rattle.solving.specs.declared.solve.Lone.the-variants.{Unbound, Nothing as NotLone}
 use Rattle.tries.specs.Partial.{partialOf, boundBy}
-use Rattle.solving.specs.Solve.{valueIn, valueFor, IsLone, boundAt, unboundAlone, alone, sideOf, solvedBy, solvedFrom, solvedAt}
+use Rattle.solving.specs.Solve.{valueTold, valueFor, IsLone, boundAt, unboundAlone, alone, sideOf, solvedBy, solvedFrom, solvedAt}
 use Rattle.tries.proofs.Slots.{slots-lent, slot-read}
 
 -- ── A slot that is looked at ──
@@ -58,8 +58,8 @@ pub all-slots : (ws b : List ℕ) (v at : ℕ) → length b ≡ v → (r : Evalu
 all-slots ws b v at l r e = rw (take-all v b (omega arith)) e
 
 module _ (ws b : List ℕ) (v at : ℕ) (l : v ≤ length b) {r : Evaluated} (h : evaluated r ≡ evaluatedFrom (lent (take v b)) (readExpression ws (length (take v b)) at)) where
-  told : {u : Evaluated} → r ≡ u → valueFor ws v b at ≡ valueIn (evaluated u)
-  told d = sym (ap valueIn (rw (length-take-le v b l) at h)) ∙ ap (λ (x : Evaluated). valueIn (evaluated x)) d
+  told : {u : Evaluated} → r ≡ u → valueFor ws v b at ≡ valueTold (evaluated u)
+  told d = sym (ap valueTold (rw (length-take-le v b l) at h)) ∙ ap (λ (x : Evaluated). valueTold (evaluated x)) d
 
   module _ (ranges : List Range) (n : ℕ) where
     pub bound-value : {z : ℤ} {p : ℕ} {x : Option Partial} → r ≡ Value z p → x ≡ bindNew (partialOf v b) n (getElem? ranges n) z → x ≡ boundBy ranges (partialOf v b) n (valueFor ws v b at)
@@ -142,7 +142,7 @@ module _ {ws : List ℕ} {v at : ℕ} (h : HasConjunct ws v at) (b : List ℕ) w
         let m : s .mid ≡ at + 2 = a .1 ∙ omega arith in
         let r : readExpression ws v (at + 2) ≡ read (h .conjunct .right) (s .next) = rw m at (s .right) in
         f
-        ∙ ap (boundBy ranges (partialOf v b) n) (ap (λ (x : Reading Expression). valueIn (evaluatedFrom (lent (take v b)) x)) r ∙ same (h .conjunct .right))
+        ∙ ap (boundBy ranges (partialOf v b) n) (ap (λ (x : Reading Expression). valueTold (evaluatedFrom (lent (take v b)) x)) r ∙ same (h .conjunct .right))
         ∙ sym (by-left ranges (partialOf v b) (h .conjunct) n (a .0 ∙ ap variable (sym (k .1))) (k .3))
         ∙ answer
 

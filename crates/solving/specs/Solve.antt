@@ -21,13 +21,13 @@ use Rattle.solving.specs.declared.solve.Lone.the-variants.{Unbound, Noth
 use Rattle.tries.specs.Partial.{partialOf, boundBy}
 
 -- a value that was told, if there is one
-abbrev pub valueIn : Valuation → Option ℤ
-valueIn (valued o next) = o
-valueIn unread = none
+abbrev pub valueTold : Valuation → Option ℤ
+valueTold (valued o next) = o
+valueTold unread = none
 
 -- the value of the expression at a position under the first v slots
 abbrev pub valueFor : List ℕ → ℕ → List ℕ → ℕ → Option ℤ
-valueFor ws v b at = valueIn (evaluatedFrom (lent (take v b)) (readExpression ws v at))
+valueFor ws v b at = valueTold (evaluatedFrom (lent (take v b)) (readExpression ws v at))
 
 -- what a look at the word of a position tells
 abbrev pub IsLone : List ℕ → ℕ → List ℕ → ℕ → Lone → Type 0
