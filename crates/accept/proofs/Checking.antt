@@ -23,13 +23,13 @@ use Rattle.semantics.proofs.Accepted.{read-sound, front-inside}
 use Rattle.expression.specs.declared.read.Skipped.{Skipped}
 use Rattle.expression.specs.declared.read.Skipped.the-variants.{Next, Refused}
 use Rattle.net.specs.declared.index.NetIndex.{NetIndex}
-use Rattle.net.specs.Skim.{changed, outline, NetOutline, netOutline, width, skimNet}
+use Rattle.net.specs.Skim.{changed, outline, netOutline, width, skimNet}
 use Rattle.net.specs.Parted.{Parted, PartsKept}
 use Rattle.net.specs.Index.{upTo, outlinedNet, netRead}
-use Rattle.net.proofs.Skimming.{skim-net, widths-of}
+use Rattle.net.proofs.Skimming.{skim-net}
 use Rattle.net.proofs.Loops.{forget-changed, changed-refused}
 use Rattle.net.proofs.Transitions.{skips}
-use Rattle.net.proofs.Nets.{seconds}
+use Rattle.net.proofs.Placed.{index-widths, index-transitions}
 use Rattle.net.proofs.Located.{At as Stands, net-transitions}
 use Rattle.net.proofs.Parted.{parted}
 use Rattle.plans.specs.declared.plan.Fault.{Fault}
@@ -53,6 +53,16 @@ take-least {A} (x ∷ xs) (suc n) (suc m) p h e =
     let d : p ≡ suc (min n m) = omega arith in
     rw d (ap (λ (ys : List A). x ∷ ys) (take-least xs n m (min n m) (omega arith) refl))
 
+-- a net whose index ends was read
+pub index-read : (r : Reading Net) (i : NetIndex) {next : ℕ} → netRead i ≡ changed netOutline r → i .end ≡ Next next → (net : Net) × (r ≡ read net next) × (netOutline net ≡ (outlinedNet i))
+index-read (read net n) i {next} x e =
+    let y : read (outlinedNet i) next ≡ read (netOutline net) n = sym (ap (λ (k : Skipped). upTo k (outlinedNet i)) e) ∙ x in
+    let a : n ≡ next = cc in
+    (net, ap (read net) a, cc)
+index-read (refused m q) i {next} x e =
+    let y : read (outlinedNet i) next ≡ refused m q = sym (ap (λ (k : Skipped). upTo k (outlinedNet i)) e) ∙ x in
+    false-true (cc)
+
 -- the net that was read, and its positions
 record Found (ws : List ℕ) (i : NetIndex) (next : ℕ) : Type 0 where
   net : Net
@@ -73,20 +83,14 @@ module _ (ws : List ℕ) (i : NetIndex) (x : netRead i ≡ skimNet ws 0) where
 
   module _ (full : length (i .«places_at») ≡ 64) (wide : length (i .widths) ≡ 64) where
     found : {next : ℕ} → i .end ≡ Next next → Found ws i next
-    found {next} e = by (readNet ws 0) refl (as-read ∙ ap (λ (k : Skipped). upTo k (outlinedNet i)) e)
-      where
-        by : (r : Reading Net) → readNet ws 0 ≡ r → changed netOutline r ≡ read (outlinedNet i) next → Found ws i next
-        by (refused m q) p h = false-true (cc)
-        by (read net n) p h =
-            let a : n ≡ next = cc in
-            let o : netOutline net ≡ (outlinedNet i) = cc in
-            let alike : length (take (i .places) (i .«places_at»)) ≡ length (take (i .places) (i .widths)) = length-take (i .places) (i .«places_at») ∙ ap (min (i .places)) (full ∙ sym wide) ∙ sym (length-take (i .places) (i .widths)) in
-            record {
-              net = net;
-              reads = rw (← a) p;
-              widths-are = sym (widths-of (net .places)) ∙ ap (λ (k : NetOutline). map (λ (p : ℕ × ℕ). p .1) (k .places)) o ∙ seconds (take (i .places) (i .«places_at»)) (take (i .places) (i .widths)) alike;
-              begins-are = ap (λ (k : NetOutline). k .transitions) o;
-            }
+    found {next} e =
+        let r = index-read (readNet ws 0) i (sym as-read) e in
+        record {
+          net = r .0;
+          reads = r .1;
+          widths-are = sym (index-widths ws i x full wide (r .0) next (r .1));
+          begins-are = sym (index-transitions ws i x full wide (r .0) next (r .1));
+        }
 
     net-fault-of : {next : ℕ} (f : Found ws i next) → faultAmong ws (take (i .places) (i .widths)) (take (i .transitions) (i .«transitions_at»)) ≡ plansFault (f .net .transitions)
     net-fault-of {next} f =
@@ -166,16 +170,6 @@ pub whole-index : (ws : List ℕ) (i : NetIndex) {table : List ℕ} → IsExtent
 whole-index ws i x = record { same = x .same ∙ ap (changed netOutline) (to-all ws); kept = x .kept }
 
 -- ── The calls ──
-
--- a net whose index ends was read
-pub index-read : (r : Reading Net) (i : NetIndex) {next : ℕ} → netRead i ≡ changed netOutline r → i .end ≡ Next next → (net : Net) × (r ≡ read net next) × (netOutline net ≡ (outlinedNet i))
-index-read (read net n) i {next} x e =
-    let y : read (outlinedNet i) next ≡ read (netOutline net) n = sym (ap (λ (k : Skipped). upTo k (outlinedNet i)) e) ∙ x in
-    let a : n ≡ next = cc in
-    (net, ap (read net) a, cc)
-index-read (refused m q) i {next} x e =
-    let y : read (outlinedNet i) next ≡ refused m q = sym (ap (λ (k : Skipped). upTo k (outlinedNet i)) e) ∙ x in
-    false-true (cc)
 
 pub index-refused : (r : Reading Net) (i : NetIndex) {n p : ℕ} → netRead i ≡ changed netOutline r → i .end ≡ Refused n p → r ≡ refused n p
 index-refused r i x e = changed-refused netOutline r (sym x ∙ ap (λ (k : Skipped). upTo k (outlinedNet i)) e)
