@@ -26,7 +26,7 @@ use Rattle.evaluation.specs.Evaluate.{lent}
 use Rattle.net.specs.Places.{rangesFrom, placesAt, PlacesFit}
 use Rattle.net.specs.Standing.{HasArc}
 use Rattle.net.proofs.Standing.{placeOf, coefficient-inside, parts, place-listed, components-read, coefficient-stands, components-stand}
-use Rattle.net.proofs.Placed.{ranges-at, fits-at}
+use Rattle.net.proofs.Placed.{ranges-at, fits-at, place-inside, place-room}
 use Rattle.colours.proofs.Codes.{code-below}
 use Rattle.arcs.specs.declared.flow.Coefficient.{Coefficient}
 use Rattle.arcs.specs.declared.flow.Coefficient.the-variants.{Tokens, Nothing as Coefficient-none}
@@ -69,15 +69,9 @@ module _ {ws ps : List ℕ} {v at : ℕ} (a : HasArc ws ps v at) where
       pub place-few : q < 64
       place-few = let h = place-there in let l = f .few in omega arith
 
-      pub place-inside : getD ps q 0 < length ws
-      place-inside = let h = fits-at f q place-there .inside in omega arith
-
       module _ {w : ℕ} (d : w ≡ payload (getD ws (getD ps q 0) 0)) where
         pub place-narrow : w ≤ 4
         place-narrow = rw d (fits-at f q place-there .narrow)
-
-        pub place-whole : getD ps q 0 + 1 + w ≤ length ws
-        place-whole = rw d (fits-at f q place-there .inside)
 
 module _ {ws ps : List ℕ} (bs : List ℕ) {at : ℕ} (a : HasArc ws ps (length bs) at) where
   flow-read : flowAt ws ps bs at ≡ bind (value houseTable (lent bs) (a .arc .coefficient)) (λ z. bind (valuesOf houseTable (lent bs) (a .arc .components)) (λ c. flowBy (a .arc .place) z c))
@@ -159,4 +153,4 @@ module _ {ws ps : List ℕ} (bs : List ℕ) {at : ℕ} (a : HasArc ws ps (length
             by Packed-outside y = outside y (either (eqb n 0))
             by Packed-none y = coloured-flow ∙ rw y
 
-pub ruleset moving-arc = (needs, arc-inside, arc-fits, coefficient-stands, place-there, place-few, place-inside, place-narrow, place-whole, behind-coefficient, packed-below, moves-nothing, moves)
+pub ruleset moving-arc = (needs, arc-inside, arc-fits, coefficient-stands, place-there, place-few, place-inside, place-narrow, place-room, behind-coefficient, packed-below, moves-nothing, moves)

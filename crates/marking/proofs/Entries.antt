@@ -23,8 +23,8 @@ use Rattle.kinds.specs.declared.take.Taken.{Taken}
 use Rattle.kinds.specs.declared.take.Taken.the-variants.{Word, Refused as TakeRefused}
 use Rattle.kinds.specs.Taken.{fitsKind, IsTaken}
 use Rattle.net.specs.Skim.{changed}
-use Rattle.net.specs.Places.{rangesFrom, widthAt, placesAt, PlacesFit}
-use Rattle.net.proofs.Placed.{places-length, ranges-at, fits-at}
+use Rattle.net.specs.Places.{rangesFrom, widthAt, placesAt}
+use Rattle.net.proofs.Placed.{places-length, ranges-at, place-inside, place-room}
 use Rattle.net.proofs.Structures.{stricter, word-refused, word-taken, next-fits}
 use Rattle.colours.specs.Values.{valuesAt}
 use Rattle.marking.specs.Marked.{tokenIn, entryPlace}
@@ -75,14 +75,6 @@ values-stand ws (r ∷ rs) at c next e =
           after = omega arith;
           inside = λ i. let j = g .inside (sp .inside i) in omega arith;
         }
-
--- ── Places by their numbers ──
-
-pub place-inside : {nws ats : List ℕ} {i : ℕ} → PlacesFit nws ats → i < length ats → getD ats i 0 < length nws
-place-inside {i = i} f h = let k = fits-at f i h .inside in omega arith
-
-pub place-room : {nws ats : List ℕ} {i n : ℕ} → PlacesFit nws ats → i < length ats → n ≡ widthAt nws (getD ats i 0) → getD ats i 0 + 1 + n ≤ length nws
-place-room {i = i} f h e = let k = fits-at f i h .inside in omega arith
 
 -- ── An entry ──
 

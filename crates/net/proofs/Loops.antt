@@ -41,6 +41,10 @@ pub changed-changed : {A B C : Type 0} (f : A → B) (g : B → C) (x : Reading 
 changed-changed f g (read a next) = refl
 changed-changed f g (refused n p) = refl
 
+pub changed-same : {A : Type 0} (x : Reading A) → changed (λ a. a) x ≡ x
+changed-same (read a next) = refl
+changed-same (refused n p) = refl
+
 -- ── Only the end is kept ──
 
 pub record Ahead (R : Reader (Unit {0})) (n at i next : ℕ) : Type 0 where
@@ -82,11 +86,7 @@ pub record Gathered {B : Type 0} (F : ℕ → Reader (List B)) (n at i next : �
 pub gathered-start : {B : Type 0} (F : ℕ → Reader (List B)) (n at : ℕ) → Gathered F n at 0 at []
 gathered-start {B} F n at =
     let e : n - 0 ≡ n = omega arith in
-    record { inside = omega arith; same = ap (λ (k : ℕ). changed (λ ps. ps) (F k at)) e ∙ by (F n at) }
-  where
-    by : (x : Reading (List B)) → changed (λ ps. ps) x ≡ x
-    by (read ps end) = refl
-    by (refused k p) = refl
+    record { inside = omega arith; same = ap (λ (k : ℕ). changed (λ ps. ps) (F k at)) e ∙ changed-same (F n at) }
 
 module _ {B : Type 0} {F : ℕ → Reader (List B)} {n at i next : ℕ} {xs : List B} (a : Gathered F n at i next xs) where
   pub gathered-turn : (p : ℕ) (b : B) → i < n → ((k : ℕ) → F (suc k) next ≡ changed (λ ps. b ∷ ps) (F k p)) → Gathered F n at (i + 1) p (xs ++ (b ∷ []))

@@ -3,7 +3,7 @@
 use mathlib.Core.Path.{_≡_, refl, sym, ap, _∙_}
 use Prim.Native.Nat.{ℕ, zero, suc, _+_, min, _≤_, _<_}
 use mathlib.Core.Bool.{Bool, true, _&&_}
-use mathlib.Core.List.{List, [], _∷_, map, zip, zipWith}
+use mathlib.Core.List.{List, [], _∷_, map, zip, zipWith, map-map}
 use native.Mathlib.Omega.{arith}
 use borrow.Author.Tests.{leb-true, leb-false, eqb-true}
 use lib.Dec.{leb, eqb}
@@ -28,7 +28,7 @@ use Rattle.net.specs.declared.index.Parts.{Parts}
 use Rattle.net.specs.Skim.{changed, outline, width, NetOutline, netOutline, skimNet}
 use Rattle.net.specs.Index.{upTo, outlined, AreParts, netRead}
 use Rattle.net.specs.Places.{rangesFrom, widthAt, placeAt, placesAt, PlaceFits, PlacesFit}
-use Rattle.net.proofs.Skimming.{skim-transition, pairOf, widths-of, skim-net}
+use Rattle.net.proofs.Skimming.{skim-transition, pairOf, skim-net}
 use Rattle.net.proofs.Nets.{seconds}
 use Rattle.net.proofs.Located.{At, net-places}
 
@@ -134,6 +134,13 @@ width-at ws ps q h = ap length (ranges-at ws ps q h) ∙ ranges-length ws (width
 pub fits-at : {ws ps : List ℕ} → PlacesFit ws ps → (q : ℕ) → q < length ps → PlaceFits ws (getD ps q 0)
 fits-at {ws} {ps} f q h = every-number (PlaceFits ws) ps q 0 (f .each) h
 
+-- its PLACE word is in the words, and so are its RANGE words
+pub place-inside : {ws ps : List ℕ} {q : ℕ} → PlacesFit ws ps → q < length ps → getD ps q 0 < length ws
+place-inside {q = q} f h = let k = fits-at f q h .inside in omega arith
+
+pub place-room : {ws ps : List ℕ} {q n : ℕ} → PlacesFit ws ps → q < length ps → n ≡ widthAt ws (getD ps q 0) → getD ps q 0 + 1 + n ≤ length ws
+place-room {q = q} f h e = let k = fits-at f q h .inside in omega arith
+
 -- ── The variables of a transition ──
 
 module _ (ws : List ℕ) (places : List Place) (at : ℕ) where
@@ -169,10 +176,6 @@ firsts [] (y ∷ ys) l = absurd (omega arith)
 firsts (x ∷ xs) [] l = absurd (omega arith)
 firsts (x ∷ xs) (y ∷ ys) l = ap (λ (r : List ℕ). x ∷ r) (firsts xs ys (omega arith))
 
-positions-of : (qs : List Place) → map (λ (p : ℕ × ℕ). p .0) (map pairOf qs) ≡ map (λ (q : Place). q .position) qs
-positions-of [] = refl
-positions-of (q ∷ qs) = ap (λ (r : List ℕ). q .position ∷ r) (positions-of qs)
-
 module _ (ws : List ℕ) (i : NetIndex) (x : netRead i ≡ skimNet ws 0) (full : length (i .«places_at») ≡ 64) (wide : length (i .widths) ≡ 64) (net : Net) (next : ℕ) (e : readNet ws 0 ≡ read net next) where
   outline-same : record { places = zip (take (i .places) (i .«places_at»)) (take (i .places) (i .widths)); transitions = take (i .transitions) (i .«transitions_at») } ≡ netOutline net
   outline-same = by (record { places = zip (take (i .places) (i .«places_at»)) (take (i .places) (i .widths)); transitions = take (i .transitions) (i .«transitions_at») }) (i .end) (x ∙ sym (skim-net ws 0) ∙ ap (changed netOutline) e)
@@ -186,10 +189,10 @@ module _ (ws : List ℕ) (i : NetIndex) (x : netRead i ≡ skimNet ws 0) (full :
 
   -- positions and widths are those that the index has
   pub index-positions : take (i .places) (i .«places_at») ≡ map (λ (q : Place). q .position) (net .places)
-  index-positions = sym (firsts (take (i .places) (i .«places_at»)) (take (i .places) (i .widths)) alike) ∙ ap (λ (o : NetOutline). map (λ (p : ℕ × ℕ). p .0) (o .places)) outline-same ∙ positions-of (net .places)
+  index-positions = sym (firsts (take (i .places) (i .«places_at»)) (take (i .places) (i .widths)) alike) ∙ ap (λ (o : NetOutline). map (λ (p : ℕ × ℕ). p .0) (o .places)) outline-same ∙ map-map (λ (p : ℕ × ℕ). p .0) pairOf (net .places)
 
   pub index-widths : take (i .places) (i .widths) ≡ map width (net .places)
-  index-widths = sym (seconds (take (i .places) (i .«places_at»)) (take (i .places) (i .widths)) alike) ∙ ap (λ (o : NetOutline). map (λ (p : ℕ × ℕ). p .1) (o .places)) outline-same ∙ widths-of (net .places)
+  index-widths = sym (seconds (take (i .places) (i .«places_at»)) (take (i .places) (i .widths)) alike) ∙ ap (λ (o : NetOutline). map (λ (p : ℕ × ℕ). p .1) (o .places)) outline-same ∙ map-map (λ (p : ℕ × ℕ). p .1) pairOf (net .places)
 
   pub index-transitions : take (i .transitions) (i .«transitions_at») ≡ map (λ (t : Transition). t .position) (net .transitions)
   index-transitions = ap (λ (o : NetOutline). o .transitions) outline-same

@@ -1,7 +1,7 @@
 -- The readings of specs/Skim are those of semantics with the data left out: each reader's law follows the reader, step by step.
 use mathlib.Core.Path.{_≡_, refl, sym, ap, _∙_, fun-ext}
 use Prim.Native.Nat.{ℕ, zero, suc}
-use mathlib.Core.List.{List, [], _∷_, map}
+use mathlib.Core.List.{List, [], _∷_, map, map-map}
 use lib.Dec.{ltb}
 use lib.ListN.{length, getD, length-map}
 use Rattle.semantics.specs.Reading.{Reading, read, refused, then, Reader, several, word}
@@ -177,10 +177,6 @@ skim-places (suc n) ws at =
     paired (read k m) = refl
     paired (refused i j) = refl
 
-pub widths-of : (ps : List Place) → map (λ (p : ℕ × ℕ). p .1) (map pairOf ps) ≡ map width ps
-widths-of [] = refl
-widths-of (p ∷ ps) = ap (λ (ns : List ℕ). width p ∷ ns) (widths-of ps)
-
 pub transition-begins : (ws : List ℕ) (places : List Place) (at : ℕ) (t : Transition) (next : ℕ) → readTransition ws places at ≡ read t next → t .position ≡ at
 unfolding readTransition fitsKind
 transition-begins ws places at t next e =
@@ -202,4 +198,4 @@ skim-net ws at =
     next w ps m = then (starts (bits 0 7 w) (λ at. forget (skimTransition ws (map (λ (p : ℕ × ℕ). p .1) ps) at)) m) (λ ts m. read (record { places = ps; transitions = ts }) m)
 
     same : (ps : List Place) (at : ℕ) → forget (readTransition ws ps at) ≡ forget (skimTransition ws (map (λ (p : ℕ × ℕ). p .1) (map pairOf ps)) at)
-    same ps at = sym (forget-changed outline (readTransition ws ps at)) ∙ ap forget (skim-transition ws ps at ∙ ap (λ (ns : List ℕ). skimTransition ws ns at) (sym (widths-of ps)))
+    same ps at = sym (forget-changed outline (readTransition ws ps at)) ∙ ap forget (skim-transition ws ps at ∙ ap (λ (ns : List ℕ). skimTransition ws ns at) (sym (map-map (λ (p : ℕ × ℕ). p .1) pairOf ps)))

@@ -1,13 +1,14 @@
 -- `arcs::flow::move_at` meets its contract: each answer by its rule in `Flowing`; the place's words stand in the net, since places fit.
 use native.Mathlib.Omega.{arith}
-use Rattle.arcs.proofs.Flowing.{behind-coefficient, place-inside, place-narrow, place-whole, moving-arc}
+use Rattle.net.proofs.Placed.{place-inside, place-room}
+use Rattle.arcs.proofs.Flowing.{place-there, behind-coefficient, place-narrow, moving-arc}
 use Rattle.arcs.proofs.flow.move_at.Statement.{statement}
 use Rattle.arcs.proofs.flow.move_at.Tie as tie
 
 add-pack : tie.Need-add-pack
 add-pack c =
     let st = c .before .before .before .before .before .before .before .before .before .before .before .before in
-    let h = place-inside (st .pre .1 .0) (c .before .before .before .before .before .before .before .payload .ensures .0) (st .pre .0) in
+    let h = place-inside (st .pre .0) (place-there (st .pre .1 .0) (c .before .before .before .before .before .before .before .payload .ensures .0)) in
     omega arith
 
 pack-requires : tie.Need-pack-requires
@@ -16,7 +17,7 @@ pack-requires c κs =
     let a = st .pre .1 .0 in
     let g = c .before .before .before .before .before .before .before .payload .ensures .0 in
     let e = c .payload2 .ensures .0 in
-    ((place-narrow a g (st .pre .0) e, place-whole a g (st .pre .0) e), (behind-coefficient (st .args .binding .now) a (c .before .before .before .before .before .before .coefficient-at .ensures) (c .before .before .before .before .amount .given .1) g e, st .pre .1 .1))
+    ((place-narrow a g (st .pre .0) e, place-room (st .pre .0) (place-there a g) e), (behind-coefficient (st .args .binding .now) a (c .before .before .before .before .before .before .coefficient-at .ensures) (c .before .before .before .before .amount .given .1) g e, st .pre .1 .1))
 
 pub move-at-spec : {M : Type 1} → statement M
 move-at-spec =

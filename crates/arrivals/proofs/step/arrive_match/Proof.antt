@@ -2,7 +2,7 @@
 use native.Mathlib.Omega.{arith}
 use borrow.Author.Needs.{needs}
 use Rattle.net.proofs.Structures.{next-fits}
-use Rattle.marking.proofs.Entries.{place-inside}
+use Rattle.net.proofs.Placed.{place-inside}
 use Rattle.net.proofs.Placed.{fits-at}
 use Rattle.arrivals.proofs.Aiming.{without, noted-blank, match-refused, match-nowhere, match-backwards, match-outside, match-unread, match-aimed}
 use Rattle.arrivals.proofs.step.arrive_match.Statement.{statement}

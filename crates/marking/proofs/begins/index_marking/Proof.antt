@@ -7,7 +7,7 @@ use native.Mathlib.Omega.{arith}
 use borrow.Author.Needs.{needs}
 use Rattle.net.specs.Places.{placesAt}
 use Rattle.net.proofs.Placed.{fits-at}
-use Rattle.marking.proofs.Entries.{place-inside}
+use Rattle.net.proofs.Placed.{place-inside}
 use Rattle.marking.proofs.Known.{Known, known-start, known-end, token-placed, token-inside, known-goes, known-passed}
 use Rattle.marking.proofs.begins.index_marking.Statement.{statement}
 use Rattle.marking.proofs.begins.index_marking.Tie as tie

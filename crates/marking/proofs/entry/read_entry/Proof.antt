@@ -1,5 +1,6 @@
 -- `marking::entry::read_entry` meets its contract: the rules of `Entries`, one for each arm.
-use Rattle.marking.proofs.Entries.{token-in, place-inside, entering}
+use Rattle.net.proofs.Placed.{place-inside}
+use Rattle.marking.proofs.Entries.{token-in, entering}
 use native.Mathlib.Omega.{arith}
 use Rattle.marking.proofs.entry.read_entry.Statement.{statement}
 use Rattle.marking.proofs.entry.read_entry.Tie as tie
