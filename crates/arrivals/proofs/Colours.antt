@@ -18,16 +18,16 @@ use Rattle.semantics.proofs.Tests.{selected, select-in, Every-at}
 use Rattle.semantics.proofs.Order.{rising-select, rising-unique}
 use Rattle.semantics.proofs.Tuples.{in-tuples, tuples-rise}
 use Rattle.semantics.proofs.Entries.{Good, counts-some, counts-member}
-use Rattle.semantics.proofs.ReadEntries.{Accepted, whole-read}
+use Rattle.semantics.proofs.ReadEntries.{Accepted}
 use Rattle.counts.specs.Counts.{coloursAt}
 use Rattle.marking.specs.Marked.{beginOf, markingRead, Begins}
+use Rattle.marking.proofs.Counted.{entries-accepted}
 use Rattle.counts.proofs.Blocks.{on, block}
 use Rattle.counts.proofs.Found.{colours, block-colours, Seen, seen}
 
 module _ (net : Net) (ms : List ℕ) (es : List Entry) (next : ℕ) (r : markingRead (net .places) ms ≡ read es next) where
   accepted : Accepted (net .places) ms [] 0 es next
-  unfolding markingRead
-  accepted = whole-read (net .places) ms es next r
+  accepted = entries-accepted (net .places) ms es next r
 
   -- ── The members ──
 

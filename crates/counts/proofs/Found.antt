@@ -21,11 +21,11 @@ use Rattle.semantics.proofs.Tests.{either, fails, not-both, tuple-same, Every-a
 use Rattle.semantics.proofs.Order.{before-unlike, rising-select}
 use Rattle.semantics.proofs.Spans.{then-read, then-demand, demand-read, read-same, numbered-read}
 use Rattle.semantics.proofs.Entries.{entryKey}
-use Rattle.semantics.proofs.ReadEntries.{entries-read}
 use Rattle.counts.specs.declared.find.Spot.{Spot}
 use Rattle.colours.specs.Values.{valuesAt}
 use Rattle.counts.specs.Counts.{blockAt, coloursAt, rankOf, IsRank, IsSpot}
 use Rattle.marking.specs.Marked.{markingRead, positionOf, beginOf, Begins}
+use Rattle.marking.proofs.Counted.{entries-accepted}
 use Rattle.marking.proofs.Rising.{sizeOf, entry-stands}
 use Rattle.counts.proofs.Ranked.{rank-none, entry-room}
 use Rattle.counts.proofs.Blocks.{on, block, Wide, key-same, position-rank, begin-next, counts-block, Stand, block-stands}
@@ -116,15 +116,12 @@ counts-rank p c (b ∷ bs) q r = by (counts-rank p c bs (q .1) (r .1)) (either (
     later t [] e = tt
     later t (d ∷ ds) e = (differs-later (b .colour) (d .colour) c t (e .0), later t ds (e .1))
 
-    none-before : (x : List ℤ) (ys : List (List ℤ)) → Every (λ y. before x y ≡ true) ys → before x c ≡ false → rankOf ys c ≡ 0
-    none-before x ys e t = rank-none x ys c e t
-
     by : countsOf bs p c ≡ countAt bs (rankOf (colours bs) c) c → (before (b .colour) c ≡ true) ⊎ (before (b .colour) c ≡ false) → countsOf (b ∷ bs) p c ≡ countAt (b ∷ bs) (cond (before (b .colour) c) 1 0 + rankOf (colours bs) c) c
     by h (inl t) =
         let i : 1 + rankOf (colours bs) c ≡ suc (rankOf (colours bs) c) = omega arith in
         rw (t, i, differs (b .colour) c t, eq-eqb (b .place) p (q .0)) (omega arith)
     by h (inr t) =
-        let z : 0 + rankOf (colours bs) c ≡ 0 = omega (arith, none-before (b .colour) (colours bs) (r .0) t) in
+        let z : 0 + rankOf (colours bs) c ≡ 0 = omega (arith, rank-none (b .colour) (colours bs) c (r .0) t) in
         rw (t, z, eq-eqb (b .place) p (q .0), counts-none p c bs (later t bs (r .0))) (omega arith)
 
 -- the count of the i-th entry of a block, told from its words
@@ -183,7 +180,7 @@ pub seen : (ws begins : List ℕ) (p n : ℕ) (ps : List Place) (es : List Entry
 unfolding markingRead
 seen ws begins p n ps es next h r b l =
     let e = numbered-read badMarking (readEntries (length ws) ps ws [] 0) es next r in
-    let a = entries-read (length ws) ps ws [] 0 es next (omega arith) e in
+    let a = entries-accepted ps ws es next r in
     let s = entries-stand (length ws) ps ws [] 0 es next (omega arith) e in
     let w : Every (Wide p n) es = Every-of (Wide p n) es (λ d k q. Every-at (Fitting ps) (s .1) k ∙ ap (λ (i : ℕ). length (rangesAt ps i)) q ∙ l) in
     let g = begin-next p n es w in

@@ -13,15 +13,15 @@ use lib.Seq.{drop-cons}
 use Rattle.semantics.specs.Lists.{Every, every}
 use Rattle.semantics.specs.Reading.{read}
 use Rattle.semantics.specs.Net.{Place, rangesAt}
-use Rattle.semantics.specs.Marking.{Entry, readMarking, countsOf}
+use Rattle.semantics.specs.Marking.{Entry, countsOf}
 use Rattle.semantics.specs.Enabling.{Flow, total, covers}
 use Rattle.semantics.proofs.Tests.{false-true, and-left, and-right}
-use Rattle.semantics.proofs.Markings.{marking-proper}
 use Rattle.net.specs.Places.{placesAt}
 use Rattle.net.proofs.Placed.{width-at}
 use Rattle.counts.specs.declared.find.Spot.{Spot}
 use Rattle.counts.specs.Counts.{IsSpot}
 use Rattle.marking.specs.Marked.{markingRead, Begins}
+use Rattle.marking.proofs.Counted.{marking-counts}
 use Rattle.colours.proofs.Codes.{coloured-length}
 use Rattle.arcs.specs.declared.gather.Gathered.{Gathered}
 use Rattle.arcs.specs.Flow.{flowsAt}
@@ -135,8 +135,7 @@ module _ {ws ps keys amounts ms begins : List ℕ} {i : ℕ} (a : Covering ws ps
 
 -- a marking has only colours that their places can have
 marking-ranged : (ws ps : List ℕ) (places : List Place) → places ≡ placesAt ws ps → (ms : List ℕ) (es : List Entry) (next : ℕ) → markingRead places ms ≡ read es next → Ranged ws ps (countsOf es)
-unfolding markingRead readMarking
-marking-ranged ws ps places e ms es next m p c h = rw (← e) (marking-proper (record { places = places; transitions = [] }) ms es next m .ranged p c h)
+marking-ranged ws ps places e ms es next m p c h = rw (← e) (marking-counts (record { places = places; transitions = [] }) ms es next m .ranged p c h)
 
 -- ── Enabling ──
 

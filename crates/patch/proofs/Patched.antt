@@ -24,8 +24,9 @@ use Rattle.semantics.proofs.Order.{before-trans, before-total, before-unlike, b
 use Rattle.semantics.proofs.Tuples.{flatMap-append}
 use Rattle.semantics.proofs.Spans.{drop-after}
 use Rattle.semantics.proofs.Entries.{entryKey, entry-path, wordsOfEntry, wordsOf, Good, counts-some, counts-member, entryOf, entryOf-words, entryOf-in, in-entryOf, entryOf-rises, entriesOf-words, entries-again}
-use Rattle.semantics.proofs.ReadEntries.{Accepted, whole-read, whole-words}
+use Rattle.semantics.proofs.ReadEntries.{Accepted, whole-words}
 use Rattle.marking.specs.Marked.{markingRead, positionOf}
+use Rattle.marking.proofs.Counted.{entries-accepted}
 use Rattle.patch.specs.Patch.{Change, changeKey, patched, oldLength, newLength, Told, Untouched, Changing, Apart, InOrder}
 
 -- ── Parts of the words ──
@@ -347,8 +348,7 @@ touched (u ∷ us) k = by (touched us k) (before-total (changeKey u) k)
 -- the changes of a marking that was read, from its first word on
 module _ (ps : List Place) (ws : List ℕ) (es : List Entry) (next : ℕ) (r : markingRead ps ws ≡ read es next) where
   accepted : Accepted ps ws [] 0 es next
-  unfolding markingRead
-  accepted = whole-read ps ws es next r
+  accepted = entries-accepted ps ws es next r
 
   module _ (net : Net) (m′ : Counts) (ts : List Change) (x : Changing net es m′ ts) where
     start : Rest ws 0 es ts
