@@ -20,11 +20,12 @@ use Rattle.semantics.specs.Reading.{Reading, read, refused, then, numbered, wor
 use Rattle.semantics.specs.Net.{Place, rangesAt}
 use Rattle.semantics.specs.Marking.{Entry, key, readEntry, rising, readEntries}
 use Rattle.semantics.proofs.Spans.{Span, then-read, read-same, refused-read, word-read, drop-first}
-use Rattle.semantics.proofs.Tests.{false-true, either}
+use Rattle.semantics.proofs.Tests.{false-true, either, Every-at, Every-of}
 use Rattle.semantics.proofs.Members.{every-snoc}
 use Rattle.expression.specs.declared.read.Skipped.the-variants.{Next, Refused}
 use Rattle.expression.specs.Skip.{forget}
 use Rattle.net.specs.Skim.{changed}
+use Rattle.net.proofs.Loops.{changed-same}
 use Rattle.marking.specs.declared.entry.EntryRead.{EntryRead}
 use Rattle.marking.specs.declared.entry.EntryRead.the-variants.{Entry as EntryAt, Refused as EntryRefused}
 use Rattle.colours.specs.Values.{valuesAt}
@@ -114,10 +115,6 @@ begin-size : (es : List Entry) (place p : ℕ) → Every (λ (e : Entry). e .pla
 unfolding positionOf sizeOf
 begin-size [] place p l h = refl
 begin-size (e ∷ es) place p l h = let i = l .0 in rw (place-before e p (omega arith), begin-size es place p (l .1) h)
-
-Every-weaken : {A : Type 0} (P Q : A → Type 0) (xs : List A) → ((x : A) → P x → Q x) → Every P xs → Every Q xs
-Every-weaken P Q [] f e = tt
-Every-weaken P Q (x ∷ xs) f e = (f x (e .0), Every-weaken P Q xs f (e .1))
 
 -- ── One entry more ──
 
@@ -210,10 +207,6 @@ so-far-start ps ws begins l z = record {
   few = omega arith;
   long = l;
 }
-  where
-    changed-same : (x : Reading (List Entry)) → changed (λ es. es) x ≡ x
-    changed-same (read es next) = refl
-    changed-same (refused n p) = refl
 
 module _ {ps : List Place} {ws begins : List ℕ} {last place at : ℕ} (a : SoFar ps ws begins last place at) where
   -- the words are at their end
@@ -312,7 +305,7 @@ module _ {ps : List Place} {ws begins : List ℕ} {last place at : ℕ} (a : SoF
                   size = omega (arith, size-snoc (a .entries) e);
                   first = λ z. absurd (omega arith);
                   later = λ f. rw (stands .colour);
-                  low = every-snoc (λ (d : Entry). d .place ≤ e .place) (a .entries) e (Every-weaken (λ (d : Entry). d .place ≤ place) (λ (d : Entry). d .place ≤ e .place) (a .entries) (λ d h. let g = no-lesser in omega arith) (a .low)) (omega arith);
+                  low = every-snoc (λ (d : Entry). d .place ≤ e .place) (a .entries) e (Every-of (λ (d : Entry). d .place ≤ e .place) (a .entries) (λ d k. let h = Every-at (λ (d : Entry). d .place ≤ place) (a .low) k in let g = no-lesser in omega arith)) (omega arith);
                   begun = λ p i. begun p i (either (leb p place));
                   few = few;
                   long = omega arith;

@@ -26,7 +26,7 @@ use Rattle.semantics.specs.Marking.{pickTransition, pickIndex, countsOf}
 use Rattle.semantics.specs.Enabling.{Firing, Enabled, isEnabled}
 use Rattle.semantics.specs.Run.{menu, Offer, offered, withheld, offer, fireAt, pickFrom, pick}
 use Rattle.semantics.specs.Calls.{Situation, MenuEnd, listedBy, limits}
-use Rattle.semantics.proofs.Tests.{false-true, Every-of}
+use Rattle.semantics.proofs.Tests.{false-true, Every-at, Every-of}
 use Rattle.semantics.proofs.Members.{none-some, length-at, at-member, past-elem, every-elem, map-elem}
 use Rattle.semantics.proofs.Accepted.{SoundArc, SoundTransition, transition-sound, accepted-read, accepted-sound, accepted-planned}
 use Rattle.semantics.proofs.Offer.{offer-made}
@@ -102,10 +102,6 @@ flat-length (x ∷ bs) v h =
     let f = h .0 in
     let s = suc-mul (length bs) v in
     omega arith
-
-every-arc : (P Q : Arc → Type 0) → ((a : Arc) → P a → Q a) → (l : List Arc) → Every P l → Every Q l
-every-arc P Q f [] e = tt
-every-arc P Q f (x ∷ xs) e = (f x (e .0), every-arc P Q f xs (e .1))
 
 -- ── The transition of a pick ──
 
@@ -280,7 +276,7 @@ module _ {ws ps transitions parts buffer : List ℕ} {size w : ℕ} (P : Pickabl
             guard-at = parted .guard;
             inputs-at = parted .inputs;
             outputs-at = parted .outputs;
-            outputs = every-arc (SoundArc (net .places) (length (chosen .0 .variables))) (λ (a : Arc). a .place < length (net .places)) (λ a s. s .there) (chosen .0 .outputs) (sound .outputs);
+            outputs = Every-of (λ (a : Arc). a .place < length (net .places)) (chosen .0 .outputs) (λ a k. Every-at (SoundArc (net .places) (length (chosen .0 .variables))) (sound .outputs) k .there);
             marked = P .marked;
             begun = begun;
             many = ap length b-words ∙ length-map (picked .0) valueWord ∙ range-length (chosen .0 .variables) (picked .0) b-ranged;
