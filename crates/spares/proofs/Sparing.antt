@@ -80,11 +80,11 @@ spare-found {t = t} {u} s o l f a g = record { matched = λ h. s; spares = λ h.
 -- ── A list without a member ──
 
 module _ {A : Type 0} where
-  past : (l : List A) (k : ℕ) → length l ≤ k → without l k ≡ l
+  pub without-past : (l : List A) (k : ℕ) → length l ≤ k → without l k ≡ l
   unfolding without
-  past [] k h = refl
-  past (x ∷ xs) zero h = absurd (omega arith)
-  past (x ∷ xs) (suc k) h = ap (λ (r : List A). x ∷ r) (past xs k (omega arith))
+  without-past [] k h = refl
+  without-past (x ∷ xs) zero h = absurd (omega arith)
+  without-past (x ∷ xs) (suc k) h = ap (λ (r : List A). x ∷ r) (without-past xs k (omega arith))
 
   own : (l : List A) (k : ℕ) (a : A) → length l ≡ k → without (l ++ (a ∷ [])) k ≡ l
   unfolding without
@@ -115,9 +115,6 @@ module _ {A : Type 0} where
       let s = split xs k a h in
       record { front = x ∷ s .front; rest = s .rest; whole = ap (λ (r : List A). x ∷ r) (s .whole); others = ap (λ (r : List A). x ∷ r) (s .others) }
 
-pub without-past : {A : Type 0} (l : List A) (k : ℕ) → length l ≤ k → without l k ≡ l
-without-past l k h = past l k h
-
 pub without-map : {A B : Type 0} (f : A → B) (l : List A) (k : ℕ) → without (map f l) k ≡ map f (without l k)
 unfolding without
 without-map f [] k = refl
@@ -146,7 +143,7 @@ module _ {inputs : List ℕ} {k : ℕ} {rest : List ℕ} {n j : ℕ} (L : Left i
 
   pub left-own : j ≡ k → Left inputs k rest n (j + 1)
   left-own e = record {
-    same = L .same ∙ past (take j inputs) k (omega (arith, far)) ∙ sym (ap (λ (r : List ℕ). without r k) one-more ∙ own (take j inputs) k (getD inputs j 0) (far ∙ e));
+    same = L .same ∙ without-past (take j inputs) k (omega (arith, far)) ∙ sym (ap (λ (r : List ℕ). without r k) one-more ∙ own (take j inputs) k (getD inputs j 0) (far ∙ e));
     few = let f = L .few in omega arith;
     inside = omega arith;
     long = L .long;
