@@ -33,6 +33,11 @@ use Rattle.elements.specs.Bound.{marked, nonEmpty, IsBound}
 
 -- ── A lone variable ──
 
+-- a test that decides nothing
+pub cond-same : {A : Type 0} (t : Bool) (x : A) → cond t x x ≡ x
+cond-same true x = refl
+cond-same false x = refl
+
 -- a test turned round, with its answers exchanged
 pub unless : (n : ℕ) (t : Bool) → cond (not t) (n ∷ []) [] ≡ cond t [] (n ∷ [])
 unless n true = refl
@@ -230,12 +235,8 @@ module _ (ws widths : List ℕ) (v at : ℕ) (marks : List Bool) {t : Taken} (w 
   unfolding matchAt loneFrom
   match-nowhere {q} e h = nothing (rw (word-told w e, List·getD-eq-default widths 0 {n = q} h) (by (word ws 7 (fitsKind 7) (at + 1))))
     where
-      none : (t : Bool) → _≡_ {A = List ℕ} (cond t [] []) []
-      none true = refl
-      none false = refl
-
       by : (x : Reading ℕ) → after x (λ z from. cond (between 1 8191 z) [] []) ≡ []
-      by (read z from) = none (between 1 8191 z)
+      by (read z from) = cond-same (between 1 8191 z) []
       by (refused n p) = refl
 
   module _ {q : ℕ} (e : t ≡ Word q) {u : Taken} (x : IsTaken ws (at + 1) 7 u) where

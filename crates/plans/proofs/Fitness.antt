@@ -34,7 +34,7 @@ use Rattle.net.proofs.Located.{At, Parts, transition-parts}
 use Rattle.net.proofs.Placed.{word-there}
 use Rattle.net.proofs.Standing.{sides, conjunct-word, placeOf, arc-parts, arc-word}
 use Rattle.plans.specs.Fitness.{atMember, bindsAt, faultFrom, faultAmong}
-use Rattle.elements.proofs.Binding.{unless}
+use Rattle.elements.proofs.Binding.{cond-same, unless}
 use Rattle.elements.specs.Binds.{after, loneAt, loneFrom, matchAt, allBound, firstOf, solveAt}
 
 -- ── A variable alone ──
@@ -161,11 +161,7 @@ one-or-none (some n) = n ∷ []
 
 solved-lone : (isBound : ℕ → Bool) (e other : Expression) → cond (everyVariable isBound other) (lone isBound e) [] ≡ one-or-none (solvedBy isBound e other)
 unfolding lone one-or-none
-solved-lone isBound (constant z) other = by (everyVariable isBound other)
-  where
-    by : (t : Bool) → _≡_ {A = List ℕ} (cond t [] []) []
-    by true = refl
-    by false = refl
+solved-lone isBound (constant z) other = cond-same (everyVariable isBound other) []
 solved-lone isBound (variable n) other = by (isBound n) (everyVariable isBound other)
   where
     by : (u t : Bool) → cond t (cond u [] (n ∷ [])) [] ≡ one-or-none (cond (not u && t) (some n) none)
@@ -173,16 +169,8 @@ solved-lone isBound (variable n) other = by (isBound n) (everyVariable isBound o
     by true false = refl
     by false true = refl
     by false false = refl
-solved-lone isBound (binary o a b) other = by (everyVariable isBound other)
-  where
-    by : (t : Bool) → _≡_ {A = List ℕ} (cond t [] []) []
-    by true = refl
-    by false = refl
-solved-lone isBound (load a) other = by (everyVariable isBound other)
-  where
-    by : (t : Bool) → _≡_ {A = List ℕ} (cond t [] []) []
-    by true = refl
-    by false = refl
+solved-lone isBound (binary o a b) other = cond-same (everyVariable isBound other) []
+solved-lone isBound (load a) other = cond-same (everyVariable isBound other) []
 
 first-either : (x y : Option ℕ) (a b : Expression) → firstOf (one-or-none x) (one-or-none y) ≡ solutionBinds (eitherSide x y a b)
 unfolding one-or-none
