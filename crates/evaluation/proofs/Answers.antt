@@ -59,7 +59,8 @@ module _ (ws : List ℕ) (variables at : ℕ) {e : Expression} {next : ℕ} (x :
 
 -- ── Bindings ──
 
-value-written : (z : ℤ) → mag z < 8192 → valueOf (valueWord z) ≡ some z
+-- a value as it is written
+pub value-written : (z : ℤ) → mag z < 8192 → valueOf (valueWord z) ≡ some z
 value-written z h = rw (value-kind z, value-payload z, lt-ltb (modulo z (2 ^ 14)) (2 ^ 14) (modulo-below z), signed-modulo z h)
 
 -- a VALUE word has a value

@@ -1,8 +1,8 @@
 -- The rules of binding a variable anew: beyond the variables and outside the range it is not bound, else its slot is set.
 use mathlib.Core.Path.{_≡_, refl, sym, ap, _∙_}
 use mathlib.Core.Bool.{Bool, true, false, not}
-use mathlib.Core.List.{List, [], _∷_}
-use mathlib.Core.Option.{none, some, bind}
+use mathlib.Core.List.{List}
+use mathlib.Core.Option.{none, some}
 use Prim.Native.Nat.{ℕ, zero, suc, _+_, _≤_, _<_}
 use native.Mathlib.Omega.{arith}
 use borrow.Author.Tests.{not-true, not-false}
@@ -13,7 +13,7 @@ use Rattle.semantics.specs.Tries.{bindNew}
 use Rattle.word.specs.Fields.{rangeWord}
 use Rattle.word.proofs.Words.{range-small}
 use Rattle.evaluation.specs.Evaluate.{valueOf}
-use Rattle.evaluation.proofs.Answers.{lent-bound}
+use Rattle.evaluation.proofs.Answers.{value-written}
 use Rattle.net.specs.Places.{rangesFrom}
 use Rattle.tries.specs.Partial.{partialOf}
 use Rattle.tries.proofs.Slots.{slots-set}
@@ -32,13 +32,6 @@ range-beyond ws zero at n h = refl
 range-beyond ws (suc v) at zero h = absurd (omega arith)
 range-beyond ws (suc v) at (suc n) h = range-beyond ws v (at + 1) n (omega arith)
 
--- ── A VALUE word read back ──
-
--- a value in the range of a RANGE word, as it is written
-pub value-back : (w : ℕ) (z : ℤ) → within (rangeWord w) z ≡ true → valueOf (valueWord z) ≡ some z
-unfolding bind
-value-back w z h = lent-bound (z ∷ []) (range-small w z h, tt) 0
-
 -- ── The rules ──
 
 module _ (ws : List ℕ) (v at : ℕ) (b : List ℕ) (n : ℕ) (z : ℤ) where
@@ -52,4 +45,4 @@ module _ (ws : List ℕ) (v at : ℕ) (b : List ℕ) (n : ℕ) (z : ℤ) where
     pub bind-inside : {w : ℕ} → not u ≡ false → w ≡ valueWord z → some (partialOf v (set b n w)) ≡ bindNew (partialOf v b) n (getElem? (rangesFrom ws v at) n) z
     bind-inside {w} d g =
         let f : within (rangeWord (getD ws (at + n) 0)) z ≡ true = sym e ∙ not-false u d in
-        rw (range-at ws v at n h, f) (ap some (slots-set v n w b z h (ap valueOf g ∙ value-back (getD ws (at + n) 0) z f)))
+        rw (range-at ws v at n h, f) (ap some (slots-set v n w b z h (ap valueOf g ∙ value-written z (range-small (getD ws (at + n) 0) z f))))
