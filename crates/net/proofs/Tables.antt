@@ -1,12 +1,13 @@
 -- Tables in which structures begin, several kinds one after the other: what was written stays while what follows is written, since each part is written
 -- behind those before it. Rests on Loops.
 use mathlib.Core.Path.{_≡_, refl, sym, ap, _∙_}
-use mathlib.Core.List.{List, [], _∷_}
-use Prim.Native.Nat.{ℕ, zero, suc, _+_, _≤_, _<_}
+use mathlib.Core.List.{List}
+use Prim.Native.Nat.{ℕ, _+_, _≤_, _<_}
 use native.Mathlib.Omega.{arith}
 use lib.ListN.{length, take, drop, set, length-set, length-drop}
-use lib.Seq.{take-nil, take-take, drop-drop, drop-set-add, take-set-le}
+use lib.Seq.{take-take, drop-drop, drop-set-add, take-set-le}
 use Rattle.semantics.specs.Reading.{Reading, Reader}
+use Rattle.word.proofs.Slices.{slice-from}
 use Rattle.expression.specs.declared.read.Skipped.{Skipped}
 use Rattle.expression.specs.declared.read.Skipped.the-variants.{Next, Refused}
 use Rattle.expression.specs.Skip.{skipped}
@@ -15,24 +16,19 @@ use Rattle.net.proofs.Loops.{Collected, collected-start, collected-goes
 
 -- ── Tables that begin alike ──
 
-take-drop : (k n : ℕ) (x : List ℕ) → take n (drop k x) ≡ drop k (take (k + n) x)
-take-drop zero n x = let z : 0 + n ≡ n = omega arith in rw z
-take-drop (suc k) n [] = let z : suc k + n ≡ suc (k + n) = omega arith in rw (z, take-nil)
-take-drop (suc k) n (y ∷ x) = let z : suc k + n ≡ suc (k + n) = omega arith in rw z (take-drop k n x)
-
 module _ {n : ℕ} {l m : List ℕ} (alike : Alike n l m) where
   front-same : (k : ℕ) → k ≤ n → take k l ≡ take k m
   front-same k h = sym (take-take k n l h) ∙ ap (take k) (alike .same) ∙ take-take k n m h
 
   pub part-same : (k c : ℕ) → k + c ≤ n → take c (drop k l) ≡ take c (drop k m)
-  part-same k c h = take-drop k c l ∙ ap (drop k) (front-same (k + c) h) ∙ sym (take-drop k c m)
+  part-same k c h = sym (slice-from k c l) ∙ ap (drop k) (front-same (k + c) h) ∙ slice-from k c m
 
 -- a part of 32 numbers of a table
 pub own-part : (t : List ℕ) (base k c : ℕ) → k + c ≤ 32 → take c (drop k (take 32 (drop base t))) ≡ take c (drop (base + k) t)
 own-part t base k c h =
-    take-drop k c (take 32 (drop base t))
+    sym (slice-from k c (take 32 (drop base t)))
     ∙ ap (drop k) (take-take (k + c) 32 (drop base t) h)
-    ∙ sym (take-drop k c (drop base t))
+    ∙ slice-from k c (drop base t)
     ∙ ap (take c) (drop-drop k base t)
 
 -- ── Structures of one kind ──

@@ -12,7 +12,7 @@ use borrow.Author.Tests.{eqb-true, ne-eqb}
 use lib.Dec.{eqb}
 use lib.IntN.{ℤ}
 use lib.ListN.{length, take, drop, length-append, length-map, length-drop}
-use lib.Seq.{slice, slice-empty, length-slice, length-take-le, take-add, drop-at, take-append-add}
+use lib.Seq.{slice, slice-empty, length-slice, take-append-add}
 use Rattle.semantics.specs.Lists.{Every}
 use Rattle.semantics.specs.Word.{valueWord}
 use Rattle.semantics.specs.Reading.{read}
@@ -25,27 +25,24 @@ use Rattle.semantics.proofs.Tuples.{flatMap-append}
 use Rattle.semantics.proofs.Spans.{drop-after}
 use Rattle.semantics.proofs.Entries.{entryKey, entry-path, wordsOfEntry, wordsOf, Good, counts-some, counts-member, entryOf, entryOf-words, entryOf-in, in-entryOf, entryOf-rises, entriesOf-words, entries-again}
 use Rattle.semantics.proofs.ReadEntries.{Accepted, whole-words}
+use Rattle.word.proofs.Slices.{slice-from}
 use Rattle.marking.specs.Marked.{markingRead, positionOf}
 use Rattle.marking.proofs.Counted.{entries-accepted}
 use Rattle.patch.specs.Patch.{Change, changeKey, patched, oldLength, newLength, Told, Untouched, Changing, Apart, InOrder}
 
 -- ── Parts of the words ──
 
--- the words from s on, n of them
-slice-from : (l : List ℕ) (s n : ℕ) → s ≤ length l → slice s (s + n) l ≡ take n (drop s l)
-slice-from l s n h = ap (λ (x : List ℕ). drop s x) (take-add s n l) ∙ drop-at (take s l) (take n (drop s l)) s (length-take-le s l h)
-
 -- a part that begins with xs is xs and the part after it
-slice-past : (l : List ℕ) (s : ℕ) (xs ys : List ℕ) (t : ℕ) → drop s l ≡ xs ++ ys → s + length xs ≤ t → s + length xs ≤ length l → slice s t l ≡ xs ++ slice (s + length xs) t l
-slice-past l s xs ys t e h k =
+slice-past : (l : List ℕ) (s : ℕ) (xs ys : List ℕ) (t : ℕ) → drop s l ≡ xs ++ ys → s + length xs ≤ t → slice s t l ≡ xs ++ slice (s + length xs) t l
+slice-past l s xs ys t e h =
     let n : ℕ = t - (s + length xs) in
     let i : t ≡ s + (length xs + n) = omega arith in
     let j : t ≡ s + length xs + n = omega arith in
     ap (λ (u : ℕ). slice s u l) i
-    ∙ slice-from l s (length xs + n) (omega arith)
+    ∙ slice-from s (length xs + n) l
     ∙ ap (take (length xs + n)) e
     ∙ take-append-add xs ys n
-    ∙ ap (λ (x : List ℕ). xs ++ x) (ap (take n) (sym (drop-after l s xs ys e)) ∙ sym (slice-from l (s + length xs) n k) ∙ ap (λ (u : ℕ). slice (s + length xs) u l) (sym j))
+    ∙ ap (λ (x : List ℕ). xs ++ x) (ap (take n) (sym (drop-after l s xs ys e)) ∙ sym (slice-from (s + length xs) n l) ∙ ap (λ (u : ℕ). slice (s + length xs) u l) (sym j))
 
 -- ── Where entries stand, and their counts ──
 
@@ -207,7 +204,7 @@ merged-past {ws} {src} {e} {es} {t} {ts} r a m =
     let h = m .apart .0 in
     record {
       entries = e ∷ m .entries;
-      spelled = ap (λ (x : List ℕ). x ++ later) (slice-past ws src (wordsOfEntry e) (wordsOf es) (t .at) (r .spelled) h (omega arith)) ∙ append-assoc (wordsOfEntry e) (slice (src + length (wordsOfEntry e)) (t .at) ws) later ∙ ap (λ (x : List ℕ). wordsOfEntry e ++ x) (m .spelled);
+      spelled = ap (λ (x : List ℕ). x ++ later) (slice-past ws src (wordsOfEntry e) (wordsOf es) (t .at) (r .spelled) h) ∙ append-assoc (wordsOfEntry e) (slice (src + length (wordsOfEntry e)) (t .at) ws) later ∙ ap (λ (x : List ℕ). wordsOfEntry e ++ x) (m .spelled);
       rises = (Every-of (λ (d : Entry). before (entryKey e) (entryKey d) ≡ true) (m .entries) (λ d i. from-after (entryKey e) es (t ∷ ts) d (r .rises .0) a (m .forth d i)), m .rises);
       forth = λ d i. forth d (List·Memᴰ·cases-cons i);
       back = back;

@@ -1,3 +1,4 @@
 pub mod Copying
 pub mod Read
+pub mod Slices
 pub mod Words
