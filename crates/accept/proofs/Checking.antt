@@ -18,7 +18,7 @@ use Rattle.semantics.specs.ReadNet.{readNet, readTransition}
 use Rattle.semantics.specs.Plan.{plansFault, withPlans, acceptFront, acceptNet}
 use Rattle.semantics.specs.Calls.{checkCall, splitCall}
 use Rattle.semantics.proofs.Tests.{false-true}
-use Rattle.semantics.proofs.Members.{at-length, every-elem, map-elem}
+use Rattle.semantics.proofs.Members.{at-length, every-elem}
 use Rattle.semantics.proofs.Accepted.{read-sound, front-inside}
 use Rattle.expression.specs.declared.read.Skipped.{Skipped}
 use Rattle.expression.specs.declared.read.Skipped.the-variants.{Next, Refused}
@@ -30,7 +30,7 @@ use Rattle.net.proofs.Skimming.{skim-net}
 use Rattle.net.proofs.Loops.{forget-changed, changed-refused}
 use Rattle.net.proofs.Transitions.{skips}
 use Rattle.net.proofs.Placed.{index-widths, index-transitions}
-use Rattle.net.proofs.Located.{At as Stands, net-transitions}
+use Rattle.net.proofs.Located.{At as Stands, position-at, net-transitions}
 use Rattle.net.proofs.Parted.{parted}
 use Rattle.plans.specs.declared.plan.Fault.{Fault}
 use Rattle.plans.specs.declared.plan.Fault.the-variants.{At, Nothing}
@@ -133,7 +133,7 @@ module _ (ws : List ℕ) (i : NetIndex) (x : netRead i ≡ skimNet ws 0) where
                 let widths : take (i .places) (i .widths) ≡ map width (net .places) = sym (f .widths-are) ∙ ap (λ (o : Net). map width (o .places)) same in
                 let m = sym (length-map (net .transitions) (λ (t : Transition). t .position)) ∙ ap length begins ∙ length-take (i .transitions) (i .«transitions_at») in
                 let h : first + k < i .transitions = omega (arith, l, m) in
-                let p : getD (i .«transitions_at») (first + k) 0 ≡ t .position = sym (getD-take (i .transitions) (i .«transitions_at») (first + k) 0 h) ∙ ap (λ (l : List ℕ). getD l (first + k) 0) (sym begins) ∙ map-elem (λ (t : Transition). t .position) (net .transitions) (first + k) t 0 there in
+                let p : getD (i .«transitions_at») (first + k) 0 ≡ t .position = sym (getD-take (i .transitions) (i .«transitions_at») (first + k) 0 h) ∙ position-at (λ (t : Transition). t .position) (net .transitions) (take (i .transitions) (i .«transitions_at»)) (sym begins) (first + k) t there in
                 let o = a next d .each k h room in
                 let stands = every-elem (Stands (readTransition ws (net .places)) (λ (t : Transition). t .position)) (net .transitions) (first + k) t (net-transitions ws 0 net whole e) there in
                 parted ws (net .places) (t .position) (take 32 (drop (k * 32) table)) (rw (p, widths) at (o .are)) t (stands .next) (stands .reads)

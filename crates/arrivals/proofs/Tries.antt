@@ -6,7 +6,7 @@ use mathlib.Core.Logic.{_⊎_, inl, inr}
 use mathlib.Core.Bool.{true, false}
 use mathlib.Core.List.{List, _∷_, map, map-map}
 use mathlib.Core.Option.{Option, some, bind}
-use Prim.Native.Nat.{ℕ, _+_, _≤_, _<_}
+use Prim.Native.Nat.{ℕ, _+_, _<_}
 use native.Mathlib.Omega.{arith}
 use borrow.Author.Tests.{ltb-true, ltb-false}
 use lib.Dec.{ltb}
@@ -21,12 +21,12 @@ use Rattle.semantics.specs.Plan.{newlyBound}
 use Rattle.semantics.specs.Tries.{Partial, isBoundIn, coloursOn, matched, tries}
 use Rattle.semantics.specs.Calls.{Situation}
 use Rattle.semantics.proofs.Tests.{either, Every-at}
-use Rattle.semantics.proofs.Members.{at-length, length-at, at-member, map-elem}
+use Rattle.semantics.proofs.Members.{at-length, length-at, at-member}
 use Rattle.semantics.proofs.Accepted.{Valued, SoundArc, SoundTransition, transition-sound}
 use Rattle.semantics.proofs.Fitness.{FitMatch, fit-match, FitSolve, fit-solve, FitRange, fit-range}
 use Rattle.word.specs.Fields.{rangeWord}
 use Rattle.net.specs.Places.{rangesFrom, placesAt}
-use Rattle.net.proofs.Located.{At, Parts, transition-parts}
+use Rattle.net.proofs.Located.{Parts, reads-at, transition-parts}
 use Rattle.net.proofs.Placed.{places-length, variables-placed}
 use Rattle.elements.specs.declared.element.Element.{Element}
 use Rattle.elements.specs.declared.element.Sort.{Sort}
@@ -78,14 +78,8 @@ module _ {ws ps : List ℕ} {position v : ℕ} {inputs conjuncts elements ms beg
 
     pub arc-here : (next : ℕ) × (readArc ws (placesAt ws ps) v (getD inputs k 0) ≡ read a next)
     arc-here =
-        let h = Every-at (At (readArc ws (s .net .places) (length (s .transition .variables))) (λ (a : Arc). a .position)) (pieces .inputs) (at-member (s .transition .inputs) k a e) in
-        let i : getD inputs k 0 ≡ a .position = ap (λ (l : List ℕ). getD l k 0) (w .arcs) ∙ map-elem (λ (a : Arc). a .position) (s .transition .inputs) k a 0 e in (
-          h .next,
-          ap (readArc ws (placesAt ws ps) v) i
-              ∙ ap (λ (places : List Place). readArc ws places v (a .position)) (sym (w .placed))
-              ∙ ap (λ (n : ℕ). readArc ws (s .net .places) n (a .position)) (w .many)
-              ∙ h .reads,
-        )
+        let h = reads-at (λ (a : Arc). a .position) (s .transition .inputs) inputs (w .arcs) k a e (readArc ws (s .net .places) (length (s .transition .variables))) (pieces .inputs) in
+        (h .0, ap (λ (places : List Place). readArc ws places v (getD inputs k 0)) (sym (w .placed)) ∙ ap (λ (n : ℕ). readArc ws (s .net .places) n (getD inputs k 0)) (w .many) ∙ h .1)
 
     pub arc-sound : SoundArc (s .net .places) (length (s .transition .variables)) a
     arc-sound = Every-at (SoundArc (s .net .places) (length (s .transition .variables))) (sound .inputs) (at-member (s .transition .inputs) k a e)
@@ -104,9 +98,8 @@ module _ {ws ps : List ℕ} {position v : ℕ} {inputs conjuncts elements ms beg
 
     conjunct-here : (next : ℕ) × (readConjunct ws v (getD conjuncts k 0) ≡ read c next)
     conjunct-here =
-        let h = Every-at (At (readConjunct ws (length (s .transition .variables))) (λ (c : Conjunct). c .position)) (pieces .guard) (at-member (s .transition .guard) k c e) in
-        let i : getD conjuncts k 0 ≡ c .position = ap (λ (l : List ℕ). getD l k 0) (w .guards) ∙ map-elem (λ (c : Conjunct). c .position) (s .transition .guard) k c 0 e in
-        (h .next, ap (readConjunct ws v) i ∙ ap (λ (n : ℕ). readConjunct ws n (c .position)) (w .many) ∙ h .reads)
+        let h = reads-at (λ (c : Conjunct). c .position) (s .transition .guard) conjuncts (w .guards) k c e (readConjunct ws (length (s .transition .variables))) (pieces .guard) in
+        (h .0, ap (λ (n : ℕ). readConjunct ws n (getD conjuncts k 0)) (w .many) ∙ h .1)
 
   -- ── An arrival ──
 

@@ -1,14 +1,16 @@
 -- Structures by their positions: in a net that was read, the words at the position of a place, a transition, an arc, a conjunct or an
 -- element read as that structure. The idea: each member of a list that is read was read where it says that it begins.
-use mathlib.Core.Path.{_≡_, refl, sym, ap, subst}
+use mathlib.Core.Path.{_≡_, refl, sym, ap, _∙_, subst}
 use Prim.Native.Nat.{ℕ, zero, suc}
-use mathlib.Core.List.{List}
-use lib.ListN.{length}
+use mathlib.Core.List.{List, map}
+use mathlib.Core.Option.{some}
+use lib.ListN.{length, getD, getElem?}
 use Rattle.semantics.specs.Lists.{Every}
 use Rattle.semantics.specs.Word.{bits}
 use Rattle.semantics.specs.Reading.{read, Reader, several, word}
 use Rattle.semantics.specs.Net.{Place, Arc, Conjunct, Element, Transition, Net}
 use Rattle.semantics.specs.ReadNet.{readRange, readPlace, readArc, readConjunct, readElement, readTransition, readNet}
+use Rattle.semantics.proofs.Members.{every-elem, map-elem}
 use Rattle.semantics.proofs.Readers.{Gives, gives, given, then-gives, as-read}
 use Rattle.semantics.proofs.Spans.{several-length}
 use Rattle.kinds.specs.Taken.{fitsKind}
@@ -24,6 +26,14 @@ module _ {A : Type 0} (r : Reader A) (position : A → ℕ) (begins : (at : ℕ)
   unfolding several
   located zero at = gives (refl, tt)
   located (suc n) at = then-gives (as-read (r at)) (λ a next h. then-gives (located n next) (λ rest end g. gives (ap suc (g .0), (record { next = next; reads = subst (λ (p : ℕ). r p ≡ read a next) (sym (begins at a next h)) h }, g .1))))
+
+-- one of them by its number, from the list of their positions
+module _ {A : Type 0} (position : A → ℕ) (xs : List A) (ats : List ℕ) (p : ats ≡ map position xs) (k : ℕ) (x : A) (named : getElem? xs k ≡ some x) where
+  pub position-at : getD ats k 0 ≡ position x
+  position-at = ap (λ (l : List ℕ). getD l k 0) p ∙ map-elem position xs k x 0 named
+
+  pub reads-at : (r : Reader A) → Every (At r position) xs → (next : ℕ) × (r (getD ats k 0) ≡ read x next)
+  reads-at r all = let s = every-elem (At r position) xs k x all named in (s .next, ap r position-at ∙ s .reads)
 
 -- the parts of a transition stand at their positions
 pub record Parts (ws : List ℕ) (places : List Place) (t : Transition) : Type 0 where

@@ -27,7 +27,7 @@ use Rattle.semantics.specs.Enabling.{Firing, Enabled, isEnabled}
 use Rattle.semantics.specs.Run.{menu, Offer, offered, withheld, offer, fireAt, pickFrom, pick}
 use Rattle.semantics.specs.Calls.{Situation, MenuEnd, listedBy, limits}
 use Rattle.semantics.proofs.Tests.{false-true, Every-at, Every-of}
-use Rattle.semantics.proofs.Members.{none-some, length-at, at-member, past-elem, every-elem, map-elem}
+use Rattle.semantics.proofs.Members.{none-some, length-at, at-member, past-elem}
 use Rattle.semantics.proofs.Accepted.{SoundArc, SoundTransition, transition-sound, accepted-read, accepted-sound, accepted-planned}
 use Rattle.semantics.proofs.Offer.{offer-made}
 use Rattle.semantics.proofs.Enabling.{enabled-complete}
@@ -35,7 +35,7 @@ use Rattle.semantics.proofs.Menu.{menu-members}
 use Rattle.net.specs.Skim.{outline}
 use Rattle.net.specs.Places.{placesAt}
 use Rattle.net.specs.Parted.{variablesIn, inputsIn, outputsIn, guardIn, planIn, Parted}
-use Rattle.net.proofs.Located.{At, net-transitions}
+use Rattle.net.proofs.Located.{position-at, reads-at, net-transitions}
 use Rattle.net.proofs.Placed.{variables-placed}
 use Rattle.net.proofs.Parted.{head-inside}
 use Rattle.marking.specs.Marked.{markingRead, Begins, Accepted, Indexed}
@@ -119,14 +119,11 @@ module _ {ws ps transitions parts buffer : List ℕ} {size w : ℕ} (P : Pickabl
   pub among : pickTransition w < length transitions
   among = let l = ap length (P .known .stand) ∙ length-map (net .transitions) (λ (t : Transition). t .position) in let h = P .there in omega arith
 
-  stands : At (readTransition ws (net .places)) (λ (t : Transition). t .position) (chosen .0)
-  stands = every-elem (At (readTransition ws (net .places)) (λ (t : Transition). t .position)) (net .transitions) (pickTransition w) (chosen .0) (net-transitions ws 0 net (P .known .whole) (accepted-read ws net (P .known .whole) (P .known .accepted))) (chosen .1)
-
   at-position : getD transitions (pickTransition w) 0 ≡ chosen .0 .position
-  at-position = ap (λ (l : List ℕ). getD l (pickTransition w) 0) (P .known .stand) ∙ map-elem (λ (t : Transition). t .position) (net .transitions) (pickTransition w) (chosen .0) 0 (chosen .1)
+  at-position = position-at (λ (t : Transition). t .position) (net .transitions) transitions (P .known .stand) (pickTransition w) (chosen .0) (chosen .1)
 
-  reads : readTransition ws (net .places) (getD transitions (pickTransition w) 0) ≡ read (chosen .0) (stands .next)
-  reads = rw at-position (stands .reads)
+  reads : (next : ℕ) × (readTransition ws (net .places) (getD transitions (pickTransition w) 0) ≡ read (chosen .0) next)
+  reads = reads-at (λ (t : Transition). t .position) (net .transitions) transitions (P .known .stand) (pickTransition w) (chosen .0) (chosen .1) (readTransition ws (net .places)) (net-transitions ws 0 net (P .known .whole) (accepted-read ws net (P .known .whole) (P .known .accepted)))
 
   -- its TRANSITION word and its positions in the table, as the code has them
   abbrev head : ℕ
@@ -136,7 +133,7 @@ module _ {ws ps transitions parts buffer : List ℕ} {size w : ℕ} (P : Pickabl
   own = take (pickTransition w * 32 + 32 - pickTransition w * 32) (drop (pickTransition w * 32) parts)
 
   pub pick-inside : getD transitions (pickTransition w) 0 < length ws
-  pick-inside = head-inside ws (net .places) (getD transitions (pickTransition w) 0) (chosen .0) (stands .next) reads
+  pick-inside = head-inside ws (net .places) (getD transitions (pickTransition w) 0) (chosen .0) (reads .0) (reads .1)
 
   -- the positions of its parts are not the last 32 of the table
   is-kept : pickTransition w * 32 + 64 ≤ length parts
@@ -160,7 +157,7 @@ module _ {ws ps transitions parts buffer : List ℕ} {size w : ℕ} (P : Pickabl
 
   pub scene-is : sceneOf ws (getD transitions (pickTransition w) 0) (take size buffer) ≡ record { net = net; transition = chosen .0; counts = countsOf (P .entries) }
   unfolding sceneOf
-  scene-is = rw (reads, P .marked)
+  scene-is = rw (reads .1, P .marked)
 
   -- ── Its menu ──
 
@@ -177,8 +174,8 @@ module _ {ws ps transitions parts buffer : List ℕ} {size w : ℕ} (P : Pickabl
           accepted = P .known .accepted;
           placed = P .known .placed;
           fits = P .known .fits;
-          after = stands .next;
-          there = reads;
+          after = reads .0;
+          there = reads .1;
           many = parted .variables;
           arcs = parted .inputs;
           guards = parted .guard;
@@ -242,7 +239,7 @@ module _ {ws ps transitions parts buffer : List ℕ} {size w : ℕ} (P : Pickabl
           ranged b j = listed b j .0
 
           sound : SoundTransition (net .places) (chosen .0)
-          sound = transition-sound ws (net .places) (getD transitions (pickTransition w) 0) (chosen .0) (stands .next) reads
+          sound = transition-sound ws (net .places) (getD transitions (pickTransition w) 0) (chosen .0) (reads .0) (reads .1)
 
           as-many : v′ ≡ length (chosen .0 .variables)
           as-many = parted .variables
@@ -260,19 +257,19 @@ module _ {ws ps transitions parts buffer : List ℕ} {size w : ℕ} (P : Pickabl
           b-words = ap (λ (l : List ℕ). take v′ (drop ((w % 16384) * v′) l)) (lists .words) ∙ binding-words (lists .bindings) v′ wide (w % 16384) (picked .0) (picked .1) (drop (length (flatMap (map valueWord) (lists .bindings))) menus)
 
           b-small : Every (λ z. mag z < 8192) (picked .0)
-          b-small = ranged-small ws (length (chosen .0 .variables)) (getD transitions (pickTransition w) 0 + 1) (picked .0) (rw (← variables-placed ws (net .places) (getD transitions (pickTransition w) 0) (chosen .0) (stands .next) reads) b-ranged)
+          b-small = ranged-small ws (length (chosen .0 .variables)) (getD transitions (pickTransition w) 0 + 1) (picked .0) (rw (← variables-placed ws (net .places) (getD transitions (pickTransition w) 0) (chosen .0) (reads .0) (reads .1)) b-ranged)
 
           fireable : FireableAt ws ps (guardIn head own) (inputsIn head own) (outputsIn head own) (take size buffer) begins (row v′ (w % 16384) after)
           fireable = record {
             net = net;
             at = getD transitions (pickTransition w) 0;
             transition = chosen .0;
-            after = stands .next;
+            after = reads .0;
             entries = P .entries;
             end = P .end;
             binding = picked .0;
             placed = P .known .placed;
-            there = reads;
+            there = reads .1;
             guard-at = parted .guard;
             inputs-at = parted .inputs;
             outputs-at = parted .outputs;

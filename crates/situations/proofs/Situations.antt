@@ -14,7 +14,7 @@ use Rattle.semantics.specs.ReadNet.{readNet, readTransition}
 use Rattle.semantics.specs.Plan.{acceptNet}
 use Rattle.semantics.specs.Marking.{Entry, readMarking}
 use Rattle.semantics.specs.Calls.{Situation as Situated, situation}
-use Rattle.semantics.proofs.Members.{length-at, past-elem, every-elem, map-elem}
+use Rattle.semantics.proofs.Members.{length-at, past-elem}
 use Rattle.expression.specs.declared.read.Skipped.{Skipped}
 use Rattle.expression.specs.declared.read.Skipped.the-variants.{Next, Refused}
 use Rattle.expression.specs.Skip.{forget, skipped}
@@ -25,7 +25,7 @@ use Rattle.net.specs.Skim.{changed, outline, netOutline}
 use Rattle.net.specs.Index.{netRead, partsOf}
 use Rattle.net.specs.Parted.{Parted}
 use Rattle.net.specs.Places.{placesAt, PlacesFit}
-use Rattle.net.proofs.Located.{At, net-transitions}
+use Rattle.net.proofs.Located.{position-at, reads-at, net-transitions}
 use Rattle.net.proofs.Parted.{head-inside, front-outline}
 use Rattle.accept.specs.declared.accepted.Extent.{Extent}
 use Rattle.accept.specs.Front.{IsExtent}
@@ -80,17 +80,14 @@ module _ (ws ms : List ℕ) (t : ℕ) (r : Extent) {places widths transitions ow
       known = length-at (net .transitions) t (omega (arith, many))
 
       at-position : getD (i .«transitions_at») t 0 ≡ known .0 .position
-      at-position = sym (getD-take q (i .«transitions_at») t 0 h) ∙ ap (λ (l : List ℕ). getD l t 0) (sym positions) ∙ map-elem (λ (t : Transition). t .position) (net .transitions) t (known .0) 0 (known .1)
+      at-position = sym (getD-take q (i .«transitions_at») t 0 h) ∙ position-at (λ (t : Transition). t .position) (net .transitions) (take q (i .«transitions_at»)) (sym positions) t (known .0) (known .1)
 
-      stands : At (readTransition ws (net .places)) (λ (t : Transition). t .position) (known .0)
-      stands = every-elem (At (readTransition ws (net .places)) (λ (t : Transition). t .position)) (net .transitions) t (known .0) (net-transitions ws 0 net next reads) (known .1)
-
-      reads-transition : readTransition ws (net .places) (getD (i .«transitions_at») t 0) ≡ read (known .0) (stands .next)
-      reads-transition = rw at-position (stands .reads)
+      stands : (after : ℕ) × (readTransition ws (net .places) (getD (i .«transitions_at») t 0) ≡ read (known .0) after)
+      stands = rw (← getD-take q (i .«transitions_at») t 0 h) (reads-at (λ (t : Transition). t .position) (net .transitions) (take q (i .«transitions_at»)) (sym positions) t (known .0) (known .1) (readTransition ws (net .places)) (net-transitions ws 0 net next reads))
 
       -- the TRANSITION word is there
       pub word-inside : getD (i .«transitions_at») t 0 < length ws
-      word-inside = head-inside ws (net .places) (getD (i .«transitions_at») t 0) (known .0) (stands .next) reads-transition
+      word-inside = head-inside ws (net .places) (getD (i .«transitions_at») t 0) (known .0) (stands .0) (stands .1)
 
     module _ (h : t < q) {p : ℕ} (few : p ≡ min (i .places) 64) (room : length own ≡ 64) (first : Skipped) {position : ℕ} (d : position ≡ getD (i .«transitions_at») t 0) {j : Parts} (y : j ≡ partsOf first (getD ws position 0)) {end : Skipped} {begins : List ℕ} (z : IsMarking (placesAt ws (take p (i .«places_at»))) ms end begins) where
       placed : net .places ≡ placesAt ws (take p (i .«places_at»))
@@ -101,8 +98,8 @@ module _ (ws ms : List ℕ) (t : ℕ) (r : Extent) {places widths transitions ow
           let o : t + 0 ≡ t = omega arith in
           rw (d, at-position h) (told-net .kept net next reads .each 0 (known h .0) (rw o (known h .1)) (omega arith))
 
-      there : readTransition ws (net .places) position ≡ read (known h .0) (stands h .next)
-      there = rw d (reads-transition h)
+      there : readTransition ws (net .places) position ≡ read (known h .0) (stands h .0)
+      there = rw d (stands h .1)
 
       abbrev s : Index
       s = record { end = end; places = p; «places_at» = places; position = position; transition = j; own = own; begins = begins }
@@ -125,7 +122,7 @@ module _ (ws ms : List ℕ) (t : ℕ) (r : Extent) {places widths transitions ow
                 net = net;
                 whole = next;
                 transition = known h .0;
-                after = stands h .next;
+                after = stands h .0;
                 entries = es;
                 end = n;
                 accepted = is-accepted;
