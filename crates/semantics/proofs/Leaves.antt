@@ -164,9 +164,9 @@ module _ (t : Transition) (isBound : ℕ → Bool) where
   matched-tracks (binary o a b ∷ es) (z ∷ zs) p q l f h = matched-tracks es zs p q l f h
   matched-tracks (load a ∷ es) (z ∷ zs) p q l f h = matched-tracks es zs p q l f h
 
--- a match keeps whatever setting a variable to a value in range keeps
-module _ (ranges : List Range) (P : Partial → Type 0) (keeps : (p q : Partial) (n : ℕ) (z : ℤ) → SetTo ranges p n z q → P p → P q) where
-  matched-keeps : (es : List Expression) (c : List ℤ) (p q : Partial) → P p → matched ranges es c p ≡ some q → P q
+-- a match keeps whatever setting an unbound variable to a value in range keeps
+module _ (ranges : List Range) (P : Partial → Type 0) (keeps : (p q : Partial) (n : ℕ) (z : ℤ) → partly p n ≡ none → SetTo ranges p n z q → P p → P q) where
+  pub matched-keeps : (es : List Expression) (c : List ℤ) (p q : Partial) → P p → matched ranges es c p ≡ some q → P q
   unfolding matched bind
   matched-keeps [] c p q k h = let e : p ≡ q = cc in subst P e k
   matched-keeps (e ∷ es) [] p q k h = none-some h
@@ -175,39 +175,39 @@ module _ (ranges : List Range) (P : Partial → Type 0) (keeps : (p q : Partial)
       by : (sameInteger j z ≡ true) ⊎ (sameInteger j z ≡ false) → (matched ranges es zs p ≡ some q → P q) → P q
       by (inl s) g = g (rw s at h)
       by (inr s) g = none-some (rw s at h)
-  matched-keeps (variable j ∷ es) (z ∷ zs) p q k h = by (partly p j) h (λ p′ k′. matched-keeps es zs p′ q k′)
+  matched-keeps (variable j ∷ es) (z ∷ zs) p q k h = by (partly p j) refl h (λ p′ k′. matched-keeps es zs p′ q k′)
     where
-      set-on : (o : Option Partial) → bindNew p j (getElem? ranges j) z ≡ o → bind o (matched ranges es zs) ≡ some q → ((p′ : Partial) → P p′ → matched ranges es zs p′ ≡ some q → P q) → P q
-      set-on none d g next = none-some g
-      set-on (some p′) d g next = next p′ (keeps p p′ j z (new-set ranges p p′ j z d) k) g
+      set-on : partly p j ≡ none → (o : Option Partial) → bindNew p j (getElem? ranges j) z ≡ o → bind o (matched ranges es zs) ≡ some q → ((p′ : Partial) → P p′ → matched ranges es zs p′ ≡ some q → P q) → P q
+      set-on e none d g next = none-some g
+      set-on e (some p′) d g next = next p′ (keeps p p′ j z e (new-set ranges p p′ j z d) k) g
 
       old-on : (old : ℤ) → (sameInteger old z ≡ true) ⊎ (sameInteger old z ≡ false) → bind (cond (sameInteger old z) (some p) none) (matched ranges es zs) ≡ some q → ((p′ : Partial) → P p′ → matched ranges es zs p′ ≡ some q → P q) → P q
       old-on old (inl s) g next = next p k (rw s at g)
       old-on old (inr s) g next = none-some (rw s at g)
 
-      by : (o : Option ℤ) → bind (agree ranges p j o z) (matched ranges es zs) ≡ some q → ((p′ : Partial) → P p′ → matched ranges es zs p′ ≡ some q → P q) → P q
-      by none g next = set-on (bindNew p j (getElem? ranges j) z) refl g next
-      by (some old) g next = old-on old (either (sameInteger old z)) g next
+      by : (o : Option ℤ) → partly p j ≡ o → bind (agree ranges p j o z) (matched ranges es zs) ≡ some q → ((p′ : Partial) → P p′ → matched ranges es zs p′ ≡ some q → P q) → P q
+      by none e g next = set-on e (bindNew p j (getElem? ranges j) z) refl g next
+      by (some old) e g next = old-on old (either (sameInteger old z)) g next
   matched-keeps (binary o a b ∷ es) (z ∷ zs) p q k h = matched-keeps es zs p q k h
   matched-keeps (load a ∷ es) (z ∷ zs) p q k h = matched-keeps es zs p q k h
 
 -- ── A try of any element ──
 
--- how a try that goes on comes about: a match with some colour, or one variable set to a value in its range
-data Goes (t : Transition) (p q : Partial) (ns : List ℕ) (isBound : ℕ → Bool) : Type 0 where
+-- how a try that goes on comes about: a match with some colour, or one unbound variable set to a value in its range
+pub data Goes (t : Transition) (p q : Partial) (ns : List ℕ) (isBound : ℕ → Bool) : Type 0 where
   matching : (es : List Expression) (c : List ℤ) → loneUnbound isBound es ≡ ns → matched (t .variables) es c p ≡ some q → Goes t p q ns isBound
-  setting : (n : ℕ) (z : ℤ) → n ∷ [] ≡ ns → SetTo (t .variables) p n z q → Goes t p q ns isBound
+  setting : (n : ℕ) (z : ℤ) → n ∷ [] ≡ ns → isBound n ≡ false → SetTo (t .variables) p n z q → Goes t p q ns isBound
 
 module _ (table : List ℕ) (net : Net) (t : Transition) (m : Counts) where
-  solved-goes : (p q : Partial) (isBound : ℕ → Bool) (ns : List ℕ) (s : Solution) → s .unknown ∷ [] ≡ ns → solved table t p s ≡ some q → Goes t p q ns isBound
+  solved-goes : (p q : Partial) (isBound : ℕ → Bool) (ns : List ℕ) (s : Solution) → s .unknown ∷ [] ≡ ns → isBound (s .unknown) ≡ false → solved table t p s ≡ some q → Goes t p q ns isBound
   unfolding bind
-  solved-goes p q isBound ns s b e = by (value table (partly p) (s .known)) e
+  solved-goes p q isBound ns s b u e = by (value table (partly p) (s .known)) e
     where
       by : (o : Option ℤ) → bind o (λ z. bindNew p (s .unknown) (getElem? (t .variables) (s .unknown)) z) ≡ some q → Goes t p q ns isBound
       by none g = none-some g
-      by (some z) g = setting (s .unknown) z b (new-set (t .variables) p q (s .unknown) z g)
+      by (some z) g = setting (s .unknown) z b u (new-set (t .variables) p q (s .unknown) z g)
 
-  tries-go : (s : Sort) (p q : Partial) (isBound : ℕ → Bool) (n : ℕ) (ns : List ℕ) → isBoundIn p ≡ isBound → newlyBound t isBound s ≡ n ∷ ns → List·Memᴰ (some q) (tries table net t m s p) → Goes t p q (n ∷ ns) isBound
+  pub tries-go : (s : Sort) (p q : Partial) (isBound : ℕ → Bool) (n : ℕ) (ns : List ℕ) → isBoundIn p ≡ isBound → newlyBound t isBound s ≡ n ∷ ns → List·Memᴰ (some q) (tries table net t m s p) → Goes t p q (n ∷ ns) isBound
   unfolding tries bind
   tries-go (match k) p q isBound n ns same fit j =
       let f = fit-match t isBound k n ns fit in
@@ -216,18 +216,18 @@ module _ (table : List ℕ) (net : Net) (t : Transition) (m : Counts) where
   tries-go (solve k) p q isBound n ns same fit j =
       let f = fit-solve t isBound k n ns fit in
       let e = List·Memᴰ·eq-of-singleton (rw (f .named) at j) in
-      solved-goes p q isBound (n ∷ ns) (f .answer) (f .binds) (ap (λ (o : Option Solution). bind o (solved table t p)) (sym (ap (λ (g : ℕ → Bool). solution g (f .conjunct)) same ∙ f .found)) ∙ sym e)
+      solved-goes p q isBound (n ∷ ns) (f .answer) (f .binds) (solution-solves isBound (f .conjunct) (f .answer) (f .found) .unbound) (ap (λ (o : Option Solution). bind o (solved table t p)) (sym (ap (λ (g : ℕ → Bool). solution g (f .conjunct)) same ∙ f .found)) ∙ sym e)
   tries-go (range k) p q isBound n ns same fit j =
       let f = fit-range t isBound k n ns fit in
       let r = length-at (t .variables) k (f .there) in
       let u = Memᴰ·of-map (λ z. some (set p k (some z))) (valuesOfRange (r .0)) (rw (r .1) at j) in
       let e : q ≡ set p k (some (u .0)) = cc in
-      setting k (u .0) (f .binds) (record { range = r .0; named = r .1; inside = range-within (r .0) (u .0) (u .1); set-to = e })
+      setting k (u .0) (f .binds) (f .unbound) (record { range = r .0; named = r .1; inside = range-within (r .0) (u .0) (u .1); set-to = e })
 
   -- a try that goes on keeps values in range and binds the variables that the element binds
   tries-ranged : (p q : Partial) (ns : List ℕ) (isBound : ℕ → Bool) → Goes t p q ns isBound → Ranged t p → Ranged t q
-  tries-ranged p q ns isBound (matching es c b h) k = matched-keeps (t .variables) (Ranged t) (λ p q n z s r. set-ranged t p q n z s r) es c p q k h
-  tries-ranged p q ns isBound (setting n z b s) k = set-ranged t p q n z s k
+  tries-ranged p q ns isBound (matching es c b h) k = matched-keeps (t .variables) (Ranged t) (λ p q n z u s r. set-ranged t p q n z s r) es c p q k h
+  tries-ranged p q ns isBound (setting n z b u s) k = set-ranged t p q n z s k
 
   tries-track : (p q : Partial) (ns bs : List ℕ) → Goes t p q ns (member bs) → Ranged t p → Tracks p bs → Tracks q (ns ++ bs)
   unfolding After
@@ -237,7 +237,7 @@ module _ (table : List ℕ) (net : Net) (t : Transition) (m : Counts) where
     where
       by : (n : ℕ) → After t (member bs) es p q → isBoundIn q n ≡ member (loneUnbound (member bs) es ++ bs) n
       by n a = a .1 n ∙ ap (λ (u : Bool). member (loneUnbound (member bs) es) n || u) (k .tracked n) ∙ sym (member-append (loneUnbound (member bs) es) bs n)
-  tries-track p q ns bs (setting n z b s) r k = rw (← b) (set-tracks t p q bs n z r k s)
+  tries-track p q ns bs (setting n z b u s) r k = rw (← b) (set-tracks t p q bs n z r k s)
 
 -- ── Members of what tries come to ──
 

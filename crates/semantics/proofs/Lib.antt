@@ -12,6 +12,7 @@ pub mod Step
 pub mod Partial
 pub mod Fitness
 pub mod Leaves
+pub mod Extending
 pub mod Spared
 pub mod Menu
 pub mod Offer

@@ -83,6 +83,10 @@ pub present-some : (o : Option ℤ) → present o ≡ true → (z : ℤ) × (o �
 present-some none e = false-true e
 present-some (some z) e = (z, refl)
 
+pub absent-none : (o : Option ℤ) → present o ≡ false → o ≡ none
+absent-none none e = refl
+absent-none (some z) e = false-true (sym e)
+
 -- ── Agreement with a full binding ──
 
 -- a partial binding has values of the full binding b alone

@@ -2,19 +2,19 @@
 -- takes from, is covered; so a binding is enabled exactly where it is without that arc. And the colour of a match try that goes on is the one that the
 -- arc takes under every binding that the try leads to, where all components are constants and lone variables.
 -- The idea: sums over flows with the arc and without it differ at its own place and colour alone.
--- Rests on Enabling and Partial.
+-- Rests on Enabling, Leaves and Extending.
 use mathlib.Core.Path.{_≡_, refl, sym, ap, _∙_, subst}
-use mathlib.Core.Bool.{Bool, true, false, cond, _&&_}
+use mathlib.Core.Bool.{true, false, cond}
 use mathlib.Core.Logic.{_⊎_, inl, inr}
-use mathlib.Core.List.{List, [], _∷_, _++_, map}
+use mathlib.Core.List.{List, [], _∷_, _++_}
 use mathlib.Core.Option.{Option, none, some, bind}
-use Prim.Native.Nat.{ℕ, zero, suc, _+_, _≤_, _<_}
+use Prim.Native.Nat.{ℕ, _+_, _≤_, _<_}
 use native.Mathlib.Omega.{arith}
 use borrow.Author.Tests.{eqb-true, ne-eqb}
 use lib.Dec.{eqb}
 use lib.IntN.{ℤ, pos}
-use lib.ListN.{length, getD, getElem?, set, length-set}
-use lib.Seq.{getD-set-same, getD-set-other}
+use lib.ListN.{length, getElem?, length-set}
+use lib.Seq.{getD-set-same}
 use Rattle.semantics.specs.Lists.{Every}
 use Rattle.semantics.specs.Word.{Range}
 use Rattle.semantics.specs.Expression.{Environment, Expression, constant, variable, binary, load, value, valuesOf, bound}
@@ -26,7 +26,8 @@ use Rattle.semantics.specs.Tries.{Partial, partly, bindNew, agree, match
 use Rattle.semantics.proofs.Tests.{either, and-left, and-right, same-test, cond-true, cond-false, integer-same, tuple-same}
 use Rattle.semantics.proofs.Members.{none-some, at-length}
 use Rattle.semantics.proofs.Enabling.{names, enabled-sound, enabled-complete}
-use Rattle.semantics.proofs.Leaves.{SetTo, new-set}
+use Rattle.semantics.proofs.Leaves.{new-set}
+use Rattle.semantics.proofs.Extending.{matched-extends}
 
 -- ── One arc among others ──
 
@@ -124,61 +125,43 @@ Lone (variable n) = Unit {0}
 Lone (binary o x y) = ⊥
 Lone (load x) = ⊥
 
--- values that were bound stay
-record Stays (p q : Partial) : Type 0 where
-  pub same : (n : ℕ) (z : ℤ) → partly p n ≡ some z → partly q n ≡ some z
-
--- a match try that goes on keeps what was bound, and the components have the colour's values
-record Taken (table : List ℕ) (es : List Expression) (zs : List ℤ) (p q : Partial) : Type 0 where
-  pub stays : Stays p q
-  pub values : valuesOf table (partly q) es ≡ some zs
-
 module _ (table : List ℕ) (ranges : List Range) where
-  first : (e : Expression) (es : List Expression) (z : ℤ) (zs : List ℤ) (p p′ q : Partial) → Stays p p′ → Taken table es zs p′ q → value table (partly q) e ≡ some z → Taken table (e ∷ es) (z ∷ zs) p q
+  first : (env : Environment) (e : Expression) (es : List Expression) (z : ℤ) (zs : List ℤ) → value table env e ≡ some z → valuesOf table env es ≡ some zs → valuesOf table env (e ∷ es) ≡ some (z ∷ zs)
   unfolding valuesOf bind
-  first e es z zs p p′ q s k v = record { stays = record { same = λ n y h. k .stays .same n y (s .same n y h) }; values = rw (v, k .values) refl }
+  first env e es z zs v w = rw (v, w) refl
 
-  staying : (p : Partial) → Stays p p
-  staying p = record { same = λ n z h. h }
-
-  set-stays : (p q : Partial) (n : ℕ) (z : ℤ) → partly p n ≡ none → q ≡ set p n (some z) → Stays p q
-  set-stays p q n z e s = record { same = λ k y h. ap (λ (r : Partial). partly r k) s ∙ getD-set-other p n k (some z) none (λ d. none-some (sym (ap (partly p) d ∙ e) ∙ h)) ∙ h }
-
-  takes : (es : List Expression) (zs : List ℤ) (p q : Partial) → length p ≡ length ranges → length es ≡ length zs → Every Lone es → matched ranges es zs p ≡ some q → Taken table es zs p q
+  -- the values of the components under what a match try goes on with are the colour: each has its value when its turn comes, and keeps it
+  pub matched-values : (es : List Expression) (zs : List ℤ) (p q : Partial) → length p ≡ length ranges → length es ≡ length zs → Every Lone es → matched ranges es zs p ≡ some q → valuesOf table (partly q) es ≡ some zs
   unfolding matched value valuesOf bind
-  takes [] [] p q l w o h = let e : p ≡ q = cc in record { stays = subst (Stays p) e (staying p); values = refl }
-  takes [] (z ∷ zs) p q l w o h = absurd (omega arith)
-  takes (e ∷ es) [] p q l w o h = absurd (omega arith)
-  takes (constant k ∷ es) (z ∷ zs) p q l w o h = by (either (sameInteger k z)) (takes es zs p q l (omega arith) (o .1))
+  matched-values [] [] p q l w o h = refl
+  matched-values [] (z ∷ zs) p q l w o h = absurd (omega arith)
+  matched-values (e ∷ es) [] p q l w o h = absurd (omega arith)
+  matched-values (constant k ∷ es) (z ∷ zs) p q l w o h = by (either (sameInteger k z)) (matched-values es zs p q l (omega arith) (o .1))
     where
-      by : (sameInteger k z ≡ true) ⊎ (sameInteger k z ≡ false) → (matched ranges es zs p ≡ some q → Taken table es zs p q) → Taken table (constant k ∷ es) (z ∷ zs) p q
-      by (inl s) rest = first (constant k) es z zs p p q (staying p) (rest (rw s at h)) (ap some (integer-same k z s))
+      by : (sameInteger k z ≡ true) ⊎ (sameInteger k z ≡ false) → (matched ranges es zs p ≡ some q → valuesOf table (partly q) es ≡ some zs) → valuesOf table (partly q) (constant k ∷ es) ≡ some (z ∷ zs)
+      by (inl s) rest = first (partly q) (constant k) es z zs (ap some (integer-same k z s)) (rest (rw s at h))
       by (inr s) rest = none-some (rw s at h)
-  takes (variable k ∷ es) (z ∷ zs) p q l w o h = by (partly p k) refl h (λ p′ l′. takes es zs p′ q l′ (omega arith) (o .1))
+  matched-values (variable k ∷ es) (z ∷ zs) p q l w o h = by (partly p k) refl h (λ p′ l′. matched-values es zs p′ q l′ (omega arith) (o .1))
     where
       Rest : Type 0
-      Rest = (p′ : Partial) → length p′ ≡ length ranges → matched ranges es zs p′ ≡ some q → Taken table es zs p′ q
+      Rest = (p′ : Partial) → length p′ ≡ length ranges → matched ranges es zs p′ ≡ some q → valuesOf table (partly q) es ≡ some zs
 
-      old-on : (old : ℤ) → partly p k ≡ some old → (sameInteger old z ≡ true) ⊎ (sameInteger old z ≡ false) → bind (cond (sameInteger old z) (some p) none) (matched ranges es zs) ≡ some q → Rest → Taken table (variable k ∷ es) (z ∷ zs) p q
+      old-on : (old : ℤ) → partly p k ≡ some old → (sameInteger old z ≡ true) ⊎ (sameInteger old z ≡ false) → bind (cond (sameInteger old z) (some p) none) (matched ranges es zs) ≡ some q → Rest → valuesOf table (partly q) (variable k ∷ es) ≡ some (z ∷ zs)
       old-on old e (inl s) g rest =
-          let r = rest p l (rw s at g) in
-          first (variable k) es z zs p p q (staying p) r (r .stays .same k z (e ∙ ap some (integer-same old z s)))
+          let g′ : matched ranges es zs p ≡ some q = rw s at g in
+          first (partly q) (variable k) es z zs (matched-extends ranges es zs p q g′ k z (e ∙ ap some (integer-same old z s))) (rest p l g′)
       old-on old e (inr s) g rest = none-some (rw s at g)
 
-      set-on : partly p k ≡ none → (u : Option Partial) → bindNew p k (getElem? ranges k) z ≡ u → bind u (matched ranges es zs) ≡ some q → Rest → Taken table (variable k ∷ es) (z ∷ zs) p q
-      set-on e none n g rest = none-some g
-      set-on e (some p′) n g rest =
+      set-on : (u : Option Partial) → bindNew p k (getElem? ranges k) z ≡ u → bind u (matched ranges es zs) ≡ some q → Rest → valuesOf table (partly q) (variable k ∷ es) ≡ some (z ∷ zs)
+      set-on none n g rest = none-some g
+      set-on (some p′) n g rest =
           let s = new-set ranges p p′ k z n in
           let d : k < length p = rw l (at-length ranges k (s .range) (s .named)) in
-          let r = rest p′ (ap length (s .set-to) ∙ length-set p k (some z) ∙ l) g in
-          first (variable k) es z zs p p′ q (set-stays p p′ k z e (s .set-to)) r (r .stays .same k z (ap (λ (x : Partial). partly x k) (s .set-to) ∙ getD-set-same p k (some z) none d))
+          let v : partly p′ k ≡ some z = ap (λ (x : Partial). partly x k) (s .set-to) ∙ getD-set-same p k (some z) none d in
+          first (partly q) (variable k) es z zs (matched-extends ranges es zs p′ q g k z v) (rest p′ (ap length (s .set-to) ∙ length-set p k (some z) ∙ l) g)
 
-      by : (u : Option ℤ) → partly p k ≡ u → bind (agree ranges p k u z) (matched ranges es zs) ≡ some q → Rest → Taken table (variable k ∷ es) (z ∷ zs) p q
+      by : (u : Option ℤ) → partly p k ≡ u → bind (agree ranges p k u z) (matched ranges es zs) ≡ some q → Rest → valuesOf table (partly q) (variable k ∷ es) ≡ some (z ∷ zs)
       by (some old) e g rest = old-on old e (either (sameInteger old z)) g rest
-      by none e g rest = set-on e (bindNew p k (getElem? ranges k) z) refl g rest
-  takes (binary u x y ∷ es) (z ∷ zs) p q l w o h = absurd (o .0)
-  takes (load x ∷ es) (z ∷ zs) p q l w o h = absurd (o .0)
-
-  -- the values of the components under what a match try goes on with are the colour
-  pub matched-values : (es : List Expression) (zs : List ℤ) (p q : Partial) → length p ≡ length ranges → length es ≡ length zs → Every Lone es → matched ranges es zs p ≡ some q → valuesOf table (partly q) es ≡ some zs
-  matched-values es zs p q l w o h = takes es zs p q l w o h .values
+      by none e g rest = set-on (bindNew p k (getElem? ranges k) z) refl g rest
+  matched-values (binary u x y ∷ es) (z ∷ zs) p q l w o h = absurd (o .0)
+  matched-values (load x ∷ es) (z ∷ zs) p q l w o h = absurd (o .0)
