@@ -209,5 +209,5 @@ code-one ws at {r} b =
 pub coded-before : {n : ℕ} {c : List ℤ} {a : ℕ} (b : ℕ) → IsCode n c a → b < 16384 ^ n → ltb a b ≡ before c (coloured n b)
 coded-before {n} {c} {a} b x h = sym (code-before n a b (x .small) h) ∙ ap (λ (l : List ℤ). before l (coloured n b)) (x .same)
 
-pub coded-same : {n : ℕ} {c : List ℤ} {a : ℕ} (b : ℕ) → IsCode n c a → b < 16384 ^ n → eqb a b ≡ sameTuple c (coloured n b)
-coded-same {n} {c} {a} b x h = sym (code-same n a b (x .small) h) ∙ ap (λ (l : List ℤ). sameTuple l (coloured n b)) (x .same)
+pub coded-after : {n : ℕ} {c : List ℤ} {a : ℕ} (b : ℕ) → IsCode n c a → b < 16384 ^ n → ltb b a ≡ before (coloured n b) c
+coded-after {n} {c} {a} b x h = sym (code-before n b a h (x .small)) ∙ ap (λ (l : List ℤ). before (coloured n b) l) (x .same)

@@ -3,8 +3,7 @@ ghost use mathlib.Core.Path.{_≡_};
 ghost use Prim.Native.Nat.{_≤_, _<_, _+_, _%_, _^_};
 ghost use lib.ListN.{length};
 ghost use Rattle.semantics.specs.Word.{signed};
-ghost use Rattle.semantics.specs.Order.{before, sameTuple};
-ghost use Rattle.colours.specs.Code.{ofDigit, coloured, IsCode, IsBehind};
+ghost use Rattle.colours.specs.Code.{ofDigit, IsCode, IsBehind};
 ghost use Rattle.colours.specs.Values.{valuesAt};
 
 // The digit of a VALUE word.
@@ -44,24 +43,4 @@ pub fn code_at(words: &[u32], at: usize, n: usize) -> u64
         return three;
     }
     with_digit(three, words[at + 3])
-}
-
-// Whether the n VALUE words at a position stand before the colour of a code.
-pub fn code_before(words: &[u32], at: usize, n: usize, code: u64) -> bool
-    requires { ⌜ n ≤ 4 ⌝ }
-    requires { ⌜ at + n ≤ length (now words) ⌝ }
-    requires { ⌜ code < 16384 ^ n ⌝ }
-    ensures { λ r. ⌜ r ≡ before (valuesAt (now (words .entry)) n at) (coloured n code) ⌝ }
-{
-    code_at(words, at, n) < code
-}
-
-// Whether they are that colour.
-pub fn code_same(words: &[u32], at: usize, n: usize, code: u64) -> bool
-    requires { ⌜ n ≤ 4 ⌝ }
-    requires { ⌜ at + n ≤ length (now words) ⌝ }
-    requires { ⌜ code < 16384 ^ n ⌝ }
-    ensures { λ r. ⌜ r ≡ sameTuple (valuesAt (now (words .entry)) n at) (coloured n code) ⌝ }
-{
-    code_at(words, at, n) == code
 }

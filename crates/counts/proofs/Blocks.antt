@@ -18,8 +18,9 @@ use Rattle.semantics.proofs.Tests.{either, Every-at, Every-of}
 use Rattle.semantics.proofs.Entries.{entryKey, entry-path}
 use Rattle.marking.proofs.Rising.{before-nothing, place-after, key-rises}
 use Rattle.colours.specs.Values.{valuesAt}
-use Rattle.counts.specs.Counts.{blockAt, rankOf}
+use Rattle.counts.specs.Counts.{blockAt}
 use Rattle.marking.specs.Marked.{positionOf, beginOf}
+use Rattle.counts.proofs.Ranked.{rankOf}
 
 -- an entry is on a place
 abbrev pub on : ℕ → Entry → Bool

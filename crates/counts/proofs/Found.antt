@@ -1,14 +1,14 @@
 -- What the bisection finds: the number of a place's colours before a colour is where its entry stands or would stand, and the entry there
--- has its count. Rests on Blocks (a place's entries stand side by side) and Ranked (their colours rise).
+-- has its count. Rests on Blocks (a place's entries stand side by side) and Ranked (the bisection ends at that number or just before it).
 use mathlib.Core.Path.{_≡_, refl, sym, ap, _∙_, subst}
 use mathlib.Core.Logic.{_⊎_, inl, inr}
 use Prim.Native.Nat.{ℕ, zero, suc, _+_, _*_, _-_, _/_, _%_, _≤_, _<_}
 use mathlib.Core.Bool.{Bool, true, false, cond, _&&_}
 use mathlib.Core.List.{List, [], _∷_, map}
-use native.Mathlib.Nat.{suc-mul, mul-le-mul-right, mul-div-cancel, div-mul-le-self}
+use native.Mathlib.Nat.{suc-mul, add-mul, mul-div-cancel, div-mul-le-self}
 use native.Mathlib.Omega.{arith}
-use borrow.Author.Tests.{leb-true, leb-false, eqb-true, eq-eqb}
-use lib.Dec.{leb, eqb}
+use borrow.Author.Tests.{leb-true, leb-false, ltb-true, ltb-false, eqb-true, eq-eqb}
+use lib.Dec.{leb, ltb, eqb}
 use lib.IntN.{ℤ, pos}
 use lib.ListN.{length, getD}
 use Rattle.semantics.specs.Lists.{Every}
@@ -17,17 +17,17 @@ use Rattle.semantics.specs.Reading.{read, then}
 use Rattle.semantics.specs.Net.{Place, rangesAt}
 use Rattle.semantics.specs.Order.{sameTuple, before, Rising}
 use Rattle.semantics.specs.Marking.{Entry, key, readEntry, rising, readEntries, countsOf}
-use Rattle.semantics.proofs.Tests.{either, fails, not-both, tuple-same, Every-at, Every-of, selected}
+use Rattle.semantics.proofs.Tests.{either, fails, not-both, tuple-same, tuple-refl, Every-at, Every-of, selected}
 use Rattle.semantics.proofs.Order.{before-unlike, rising-select}
 use Rattle.semantics.proofs.Spans.{then-read, then-demand, demand-read, read-same, numbered-read}
 use Rattle.semantics.proofs.Entries.{entryKey}
 use Rattle.counts.specs.declared.find.Spot.{Spot}
 use Rattle.colours.specs.Values.{valuesAt}
-use Rattle.counts.specs.Counts.{blockAt, coloursAt, rankOf, IsRank, IsSpot}
+use Rattle.counts.specs.Counts.{blockAt, coloursAt, IsFloor, IsSpot}
 use Rattle.marking.specs.Marked.{markingRead, positionOf, beginOf, Begins}
 use Rattle.marking.proofs.Counted.{entries-accepted}
 use Rattle.marking.proofs.Rising.{sizeOf, entry-stands}
-use Rattle.counts.proofs.Ranked.{rank-none, entry-room}
+use Rattle.counts.proofs.Ranked.{rankOf, rank-none, floor-there, floor-before, floor-after, entry-room}
 use Rattle.counts.proofs.Blocks.{on, block, Wide, key-same, position-rank, begin-next, counts-block, Stand, block-stands}
 
 -- ── A marking that was read stands in its words ──
@@ -102,6 +102,9 @@ counts-none p c (b ∷ bs) e = rw (e .0, counts-none p c bs (e .1)) (by (eqb (b 
 
 differs : (x c : List ℤ) → before x c ≡ true → sameTuple x c ≡ false
 differs x c h = fails (sameTuple x c) (λ t. before-unlike x c h (tuple-same x c t))
+
+differs-after : (x c : List ℤ) → before c x ≡ true → sameTuple x c ≡ false
+differs-after x c h = fails (sameTuple x c) (λ t. before-unlike c x h (sym (tuple-same x c t)))
 
 differs-later : (x y c : List ℤ) → before x c ≡ false → before x y ≡ true → sameTuple y c ≡ false
 differs-later x y c h k = fails (sameTuple y c) (λ t. not-both (before x c) (subst (λ (z : List ℤ). before x z ≡ true) (tuple-same y c t) k) h)
@@ -195,65 +198,83 @@ seen ws begins p n ps es next h r b l =
       wide = w;
     }
 
+-- as many as fit between the place's beginning and the next one's, and their colours
+module _ {ws begins : List ℕ} {p n k : ℕ} (e : k ≡ (getD begins (p + 1) 0 - getD begins p 0) / (n + 1)) {es : List Entry} (s : Seen ws begins p n es) where
+  seen-rows : k ≡ length (block p es)
+  seen-rows =
+      let f = s .from in
+      let t = s .to in
+      let d : getD begins (p + 1) 0 - getD begins p 0 ≡ length (block p es) * (n + 1) = omega arith in
+      e ∙ rw d (mul-div-cancel (length (block p es)) (omega arith))
+
+  seen-colours : coloursAt ws n k (getD begins p 0) ≡ colours (block p es)
+  seen-colours = rw (seen-rows, s .from) (sym (block-colours ws p n (length (block p es)) (beginOf es p)) ∙ ap colours (s .stands))
+
 -- ── By the answers of the code ──
 
-module _ (ws begins : List ℕ) (p n : ℕ) (c : List ℤ) (wide : length c ≡ n) (few : p < 64) where
+module _ {ws begins : List ℕ} {p n : ℕ} {c : List ℤ} (wide : length c ≡ n) (few : p < 64) where
   -- positions that are none of a marking's
-  pub spot-backwards : (r : Spot) → getD begins (p + 1) 0 < getD begins p 0 → IsSpot ws begins p c r
-  spot-backwards r h = record { found = λ ps es next m b l. let s = seen ws begins p n ps es next few m b (l ∙ wide) in absurd (omega (arith, s .from, s .to)) }
+  pub spot-backwards : {r : Spot} → getD begins (p + 1) 0 < getD begins p 0 → IsSpot ws begins p c r
+  spot-backwards h = record { found = λ ps es next m b l. let s = seen ws begins p n ps es next few m b (l ∙ wide) in absurd (omega (arith, s .from, s .to)) }
 
-  pub spot-outside : (r : Spot) → length ws < getD begins (p + 1) 0 → IsSpot ws begins p c r
-  spot-outside r h = record { found = λ ps es next m b l. let s = seen ws begins p n ps es next few m b (l ∙ wide) in absurd (omega (arith, s .inside)) }
+  pub spot-outside : {r : Spot} → length ws < getD begins (p + 1) 0 → IsSpot ws begins p c r
+  spot-outside h = record { found = λ ps es next m b l. let s = seen ws begins p n ps es next few m b (l ∙ wide) in absurd (omega (arith, s .inside)) }
 
-  module _ {i : ℕ} (r : IsRank (coloursAt ws n ((getD begins (p + 1) 0 - getD begins p 0) / (n + 1)) (getD begins p 0)) c i) where
-    rows : (es : List Entry) → Seen ws begins p n es → (getD begins (p + 1) 0 - getD begins p 0) / (n + 1) ≡ length (block p es)
-    rows es s =
-        let f = s .from in
-        let t = s .to in
-        let d : getD begins (p + 1) 0 - getD begins p 0 ≡ length (block p es) * (n + 1) = omega arith in
-        rw d (mul-div-cancel (length (block p es)) (omega arith))
+  module _ {k : ℕ} (e : k ≡ (getD begins (p + 1) 0 - getD begins p 0) / (n + 1)) where
+    -- by the number of colours before the colour
+    module _ (i : ℕ) (r : Rising (λ x. x) (coloursAt ws n k (getD begins p 0)) → i ≡ rankOf (coloursAt ws n k (getD begins p 0)) c) where
+      spot : (count : ℕ) → ((es : List Entry) → Seen ws begins p n es → count ≡ countAt (blockAt ws p n (length (block p es)) (beginOf es p)) i c) → IsSpot ws begins p c (record { at = getD begins p 0 + i * (n + 1); count = count })
+      unfolding colours
+      spot count f = record { found = λ ps es next m b l. by es (seen ws begins p n ps es next few m b (l ∙ wide)) }
+        where
+          ranked : (es : List Entry) → Seen ws begins p n es → i ≡ rankOf (colours (block p es)) c
+          ranked es s = r (subst (λ (l : List (List ℤ)). Rising (λ x. x) l) (sym (seen-colours e s)) (s .rises)) ∙ ap (λ (l : List (List ℤ)). rankOf l c) (seen-colours e s)
 
-    ranked : (es : List Entry) → Seen ws begins p n es → i ≡ rankOf (colours (block p es)) c
-    ranked es s =
-        let e : coloursAt ws n ((getD begins (p + 1) 0 - getD begins p 0) / (n + 1)) (getD begins p 0) ≡ colours (block p es) = rw (rows es s, s .from) (sym (block-colours ws p n (length (block p es)) (beginOf es p)) ∙ ap colours (s .stands)) in
-        r .rank (subst (λ (l : List (List ℤ)). Rising (λ x. x) l) (sym e) (s .rises)) ∙ ap (λ (l : List (List ℤ)). rankOf l c) e
+          by : (es : List Entry) → Seen ws begins p n es → (getD begins p 0 + i * (n + 1) ≡ positionOf es (key p c)) × (count ≡ countsOf es p c)
+          by es s = (
+            rw (s .from, ranked es s) (sym (position-rank p n c es (s .wide))),
+            f es s ∙ ap (λ (l : List Entry). countAt l i c) (s .stands) ∙ ap (λ (j : ℕ). countAt (block p es) j c) (ranked es s) ∙ sym (counts-rank p c (block p es) (block-places p es) (s .rises)) ∙ sym (counts-block p c es),
+          )
 
-    spot : (count : ℕ) → ((es : List Entry) → Seen ws begins p n es → count ≡ countAt (blockAt ws p n (length (block p es)) (beginOf es p)) i c) → IsSpot ws begins p c (record { at = getD begins p 0 + i * (n + 1); count = count })
-    unfolding colours
-    spot count f = record { found = λ ps es next m b l. by es (seen ws begins p n ps es next few m b (l ∙ wide)) }
-      where
-        by : (es : List Entry) → Seen ws begins p n es → (getD begins p 0 + i * (n + 1) ≡ positionOf es (key p c)) × (count ≡ countsOf es p c)
-        by es s = (
-          rw (s .from, ranked es s) (sym (position-rank p n c es (s .wide))),
-          f es s ∙ ap (λ (l : List Entry). countAt l i c) (s .stands) ∙ ap (λ (j : ℕ). countAt (block p es) j c) (ranked es s) ∙ sym (counts-rank p c (block p es) (block-places p es) (s .rises)) ∙ sym (counts-block p c es),
-        )
+      -- so many entries there are not
+      spot-past : k ≤ i → IsSpot ws begins p c (record { at = getD begins p 0 + i * (n + 1); count = 0 })
+      spot-past h = spot 0 (λ es s. sym (block-past ws p n (length (block p es)) (beginOf es p) i c (rw (seen-rows e s) at h)))
 
-    pub spot-past : (getD begins (p + 1) 0 - getD begins p 0) / (n + 1) ≤ i → IsSpot ws begins p c (record { at = getD begins p 0 + i * (n + 1); count = 0 })
-    spot-past h = spot 0 (λ es s. sym (block-past ws p n (length (block p es)) (beginOf es p) i c (rw (rows es s) at h)))
+      -- the entry of that number is the colour's, or not
+      spot-at : (t : Bool) → i < k → sameTuple (valuesAt ws n (getD begins p 0 + i * (n + 1) + 1)) c ≡ t → IsSpot ws begins p c (record { at = getD begins p 0 + i * (n + 1); count = cond t (getD ws (getD begins p 0 + i * (n + 1)) 0 % 16384) 0 })
+      spot-at t h d = spot (cond t (getD ws (getD begins p 0 + i * (n + 1)) 0 % 16384) 0) (λ es s. sym (block-count ws p n (length (block p es)) (beginOf es p) i c (rw (seen-rows e s) at h) ∙ rw (← s .from, d)))
 
-    module _ (h : i < (getD begins (p + 1) 0 - getD begins p 0) / (n + 1)) {t : Bool} (e : t ≡ sameTuple (valuesAt ws n (getD begins p 0 + i * (n + 1) + 1)) c) where
-      there : (es : List Entry) (s : Seen ws begins p n es) → countAt (blockAt ws p n (length (block p es)) (beginOf es p)) i c ≡ cond t (getD ws (getD begins p 0 + i * (n + 1)) 0 % 16384) 0
-      there es s = block-count ws p n (length (block p es)) (beginOf es p) i c (rw (rows es s) at h) ∙ rw (e, s .from)
+    -- a place without entries
+    pub spot-none : k ≡ 0 → IsSpot ws begins p c (record { at = getD begins p 0; count = 0 })
+    unfolding coloursAt rankOf
+    spot-none z =
+        let o : getD begins p 0 + 0 * (n + 1) ≡ getD begins p 0 = omega arith in
+        rw o at (spot-past 0 (λ r. rw z) (omega arith))
 
-      pub spot-found : t ≡ true → IsSpot ws begins p c (record { at = getD begins p 0 + i * (n + 1); count = getD ws (getD begins p 0 + i * (n + 1)) 0 % 16384 })
-      spot-found d = spot (getD ws (getD begins p 0 + i * (n + 1)) 0 % 16384) (λ es s. sym (rw d at (there es s)))
+    -- by the entry that the bisection ends at
+    module _ {i : ℕ} (f : IsFloor ws n (getD begins p 0) k c i) where
+      pub spot-there : valuesAt ws n (getD begins p 0 + i * (n + 1) + 1) ≡ c → IsSpot ws begins p c (record { at = getD begins p 0 + i * (n + 1); count = getD ws (getD begins p 0 + i * (n + 1)) 0 % 16384 })
+      spot-there d = spot-at i (λ r. floor-there f r d) true (f .inside) (rw d (tuple-refl c))
 
-      pub spot-differs : t ≡ false → IsSpot ws begins p c (record { at = getD begins p 0 + i * (n + 1); count = 0 })
-      spot-differs d = spot 0 (λ es s. sym (rw d at (there es s)))
+      pub spot-after : before c (valuesAt ws n (getD begins p 0 + i * (n + 1) + 1)) ≡ true → IsSpot ws begins p c (record { at = getD begins p 0 + i * (n + 1); count = 0 })
+      spot-after t = spot-at i (λ r. floor-after f r t) false (f .inside) (differs-after (valuesAt ws n (getD begins p 0 + i * (n + 1) + 1)) c t)
 
--- the rank among as many entries, told by another number
-pub ranked-same : (ws : List ℕ) (n from : ℕ) {k q : ℕ} {c : List ℤ} {r : ℕ} → k ≡ q → IsRank (coloursAt ws n k from) c r → IsRank (coloursAt ws n q from) c r
-ranked-same ws n from {c = c} {r = r} e x = subst (λ (m : ℕ). IsRank (coloursAt ws n m from) c r) e x
+      pub spot-before : before (valuesAt ws n (getD begins p 0 + i * (n + 1) + 1)) c ≡ true → IsSpot ws begins p c (record { at = getD begins p 0 + i * (n + 1) + (n + 1); count = 0 })
+      spot-before t = rw o at (by (either (ltb (i + 1) k)))
+        where
+          o : getD begins p 0 + (i + 1) * (n + 1) ≡ getD begins p 0 + i * (n + 1) + (n + 1)
+          o = let m = add-mul i 1 (n + 1) in omega arith
+
+          by : (ltb (i + 1) k ≡ true) ⊎ (ltb (i + 1) k ≡ false) → IsSpot ws begins p c (record { at = getD begins p 0 + (i + 1) * (n + 1); count = 0 })
+          by (inl u) =
+              let h = ltb-true (i + 1) k u in
+              spot-at (i + 1) (λ r. floor-before f r t) false h (differs-after (valuesAt ws n (getD begins p 0 + (i + 1) * (n + 1) + 1)) c (f .passed h))
+          by (inr u) = spot-past (i + 1) (λ r. floor-before f r t) (ltb-false (i + 1) k u)
 
 -- so many entries as fit stand inside the words
 pub rows-inside : (from to size end : ℕ) → from ≤ to → to ≤ end → from + (to - from) / size * size ≤ end
 rows-inside from to size end h k = let m = div-mul-le-self (to - from) size in omega arith
 
-pub rank-inside : (from to size end i : ℕ) → from ≤ to → to ≤ end → i ≤ (to - from) / size → from + i * size ≤ end
-rank-inside from to size end i h k l =
-    let m = mul-le-mul-right size l in
-    let n = rows-inside from to size end h k in
-    omega arith
-
-pub row-inside : (from to size end i : ℕ) → from ≤ to → to ≤ end → i < (to - from) / size → from + i * size + size ≤ end
-row-inside from to size end i h k l = entry-room from ((to - from) / size) size end i l (rows-inside from to size end h k)
+-- so does the entry that the bisection among them ends at
+pub floor-inside : {ws : List ℕ} {n from k : ℕ} {c : List ℤ} {i : ℕ} → IsFloor ws n from k c i → (to : ℕ) → k ≡ (to - from) / (n + 1) → from ≤ to → to ≤ length ws → from + i * (n + 1) + (n + 1) ≤ length ws
+floor-inside {ws} {n} {from} {k} {i = i} f to e h l = entry-room from k (n + 1) (length ws) i (f .inside) (rw e (rows-inside from to (n + 1) (length ws) h l))

@@ -1,13 +1,13 @@
 -- The entries of one place where they stand, and the entry of a colour among them. Rests on marking/specs/Marked.
 use mathlib.Core.Path.{_≡_}
-use Prim.Native.Nat.{ℕ, zero, suc, _+_, _≤_, _%_}
-use mathlib.Core.Bool.{cond}
+use Prim.Native.Nat.{ℕ, zero, suc, _+_, _*_, _<_, _%_}
+use mathlib.Core.Bool.{true, false}
 use mathlib.Core.List.{List, [], _∷_}
 use lib.IntN.{ℤ}
 use lib.ListN.{length, getD}
 use Rattle.semantics.specs.Reading.{read}
 use Rattle.semantics.specs.Net.{Place, rangesAt}
-use Rattle.semantics.specs.Order.{before, Rising}
+use Rattle.semantics.specs.Order.{before}
 use Rattle.semantics.specs.Marking.{Entry, key, countsOf}
 use Rattle.colours.specs.Values.{valuesAt}
 use Rattle.marking.specs.Marked.{markingRead, positionOf, Begins}
@@ -23,15 +23,12 @@ unfoldable pub coloursAt : List ℕ → ℕ → ℕ → ℕ → List (List ℤ)
 coloursAt ws n zero at = []
 coloursAt ws n (suc k) at = valuesAt ws n (at + 1) ∷ coloursAt ws n k (at + (n + 1))
 
--- how many colours stand before one
-unfoldable pub rankOf : List (List ℤ) → List ℤ → ℕ
-rankOf [] c = 0
-rankOf (x ∷ xs) c = cond (before x c) 1 0 + rankOf xs c
-
--- among rising colours, the number of those before a colour
-pub record IsRank (cs : List (List ℤ)) (c : List ℤ) (r : ℕ) : Type 0 where
-  pub inside : r ≤ length cs
-  pub rank : Rising (λ x. x) cs → r ≡ rankOf cs c
+-- of k entries from a position on, one that does not stand after a colour, or the first, where the next one, if any, stands after it: so, where
+-- their colours rise, the last that does not stand after it, or the first where all do
+pub record IsFloor (ws : List ℕ) (n from k : ℕ) (c : List ℤ) (r : ℕ) : Type 0 where
+  pub inside : r < k
+  pub reached : 0 < r → before c (valuesAt ws n (from + r * (n + 1) + 1)) ≡ false
+  pub passed : r + 1 < k → before c (valuesAt ws n (from + (r + 1) * (n + 1) + 1)) ≡ true
 
 -- where the entry of a place and colour stands or would stand, and its count, in a marking with these beginnings
 pub record IsSpot (ws begins : List ℕ) (p : ℕ) (c : List ℤ) (r : Spot) : Type 0 where

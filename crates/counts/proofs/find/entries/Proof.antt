@@ -1,4 +1,4 @@
--- `counts::find::entries` meets its contract: each arm divides by the size that it names.
+-- `counts::find::entries` meets its contract: each return divides by the size that its test names.
 use borrow.Author.Needs.{needs}
 use Rattle.counts.proofs.find.entries.Statement.{statement}
 use Rattle.counts.proofs.find.entries.Tie as tie
@@ -7,9 +7,9 @@ pub entries-spec : {M : Type 1} → statement M
 entries-spec =
     tie.close
     (tie.spec
+    (λ c. rw (c .if1 .taken))
+    (λ c. rw (c .if2 .taken))
+    (λ c. rw (c .if3 .taken))
+    (λ c. rw (c .if4 .taken))
     (λ c. search needs)
-    (λ c. rw (c .match .keys1))
-    (λ c. rw (c .match .keys2))
-    (λ c. rw (c .match .keys3))
-    (λ c. rw (c .match .keys4))
     (λ c. search needs))

@@ -1,51 +1,78 @@
 -- `counts::find::find` meets its contract: the laws of `Found`, one for each return.
-use Prim.Native.Nat.{_+_, _-_, _/_}
-use lib.ListN.{length, getD}
-use Rattle.colours.specs.Code.{coloured}
-use Rattle.colours.proofs.Codes.{coloured-length}
-use Rattle.counts.proofs.Ranked.{colours-length}
-use Rattle.counts.proofs.Found.{ranked-same, spot-backwards, spot-outside, spot-found, spot-differs, spot-past, rows-inside, rank-inside, row-inside}
+use mathlib.Core.Path.{sym, ap, _∙_}
+use Prim.Native.Nat.{_+_, _*_, _≤_}
 use native.Mathlib.Omega.{arith}
 use borrow.Author.Needs.{needs}
+use borrow.Author.Tests.{lt-ltb}
+use lib.ListN.{length, getD}
+use Rattle.colours.specs.Code.{coloured}
+use Rattle.colours.proofs.Codes.{coloured-length, coded-before, coded-after}
+use Rattle.counts.proofs.Found.{spot-backwards, spot-outside, spot-none, spot-there, spot-before, spot-after, rows-inside, floor-inside}
 use Rattle.counts.proofs.find.find.Statement.{statement}
 use Rattle.counts.proofs.find.find.Tie as tie
 
 returns : tie.Need-returns
-returns c = spot-backwards (c .before .before .before .before .before .args .words .now) (c .before .before .before .before .before .args .begins .now) (c .before .before .before .before .before .args .place) (c .before .before .before .before .before .args .n) (coloured (c .before .before .before .before .before .args .n) (c .before .before .before .before .before .args .code)) (coloured-length (c .before .before .before .before .before .args .n) (c .before .before .before .before .before .args .code)) (c .before .before .before .before .before .pre .1 .0) _ (c .if1 .taken)
+returns c = let s = c .before .before .before .before .before in spot-backwards (coloured-length (s .args .n) (s .args .code)) (s .pre .1 .0) (c .if1 .taken)
 
 returns-2 : tie.Need-returns-2
-returns-2 c = spot-outside (c .before .before .before .before .before .before .args .words .now) (c .before .before .before .before .before .before .args .begins .now) (c .before .before .before .before .before .before .args .place) (c .before .before .before .before .before .before .args .n) (coloured (c .before .before .before .before .before .before .args .n) (c .before .before .before .before .before .before .args .code)) (coloured-length (c .before .before .before .before .before .before .args .n) (c .before .before .before .before .before .before .args .code)) (c .before .before .before .before .before .before .pre .1 .0) _ (c .if2 .taken)
+returns-2 c = let s = c .before .before .before .before .before .before in spot-outside (coloured-length (s .args .n) (s .args .code)) (s .pre .1 .0) (c .if2 .taken)
 
 returns-3 : tie.Need-returns-3
-returns-3 c = spot-found (c .before .before .before .before .before .before .before .before .before .before .before .before .args .words .now) (c .before .before .before .before .before .before .before .before .before .before .before .before .args .begins .now) (c .before .before .before .before .before .before .before .before .before .before .before .before .args .place) (c .before .before .before .before .before .before .before .before .before .before .before .before .args .n) (coloured (c .before .before .before .before .before .before .before .before .before .before .before .before .args .n) (c .before .before .before .before .before .before .before .before .before .before .before .before .args .code)) (coloured-length (c .before .before .before .before .before .before .before .before .before .before .before .before .args .n) (c .before .before .before .before .before .before .before .before .before .before .before .before .args .code)) (c .before .before .before .before .before .before .before .before .before .before .before .before .pre .1 .0) (ranked-same (c .before .before .before .before .before .before .before .before .before .before .before .before .args .words .now) (c .before .before .before .before .before .before .before .before .before .before .before .before .args .n) (getD (c .before .before .before .before .before .before .before .before .before .before .before .before .args .begins .now) (c .before .before .before .before .before .before .before .before .before .before .before .before .args .place) 0) (c .before .before .before .before .before .entries .ensures) (c .before .before .before .before .rank .ensures)) (rw (c .before .before .before .before .before .entries .ensures) at (c .before .before .before .if3 .taken)) (c .before .before .code-same .ensures) (c .before .if4 .taken)
+returns-3 c = let s = c .before .before .before .before .before .before .before .before in spot-none (coloured-length (s .args .n) (s .args .code)) (s .pre .1 .0) (c .before .entries .ensures) (c .if3 .taken)
 
-returns-4 : tie.Need-returns-4
-returns-4 c = spot-differs (c .before .before .before .before .before .before .before .before .before .before .before .args .words .now) (c .before .before .before .before .before .before .before .before .before .before .before .args .begins .now) (c .before .before .before .before .before .before .before .before .before .before .before .args .place) (c .before .before .before .before .before .before .before .before .before .before .before .args .n) (coloured (c .before .before .before .before .before .before .before .before .before .before .before .args .n) (c .before .before .before .before .before .before .before .before .before .before .before .args .code)) (coloured-length (c .before .before .before .before .before .before .before .before .before .before .before .args .n) (c .before .before .before .before .before .before .before .before .before .before .before .args .code)) (c .before .before .before .before .before .before .before .before .before .before .before .pre .1 .0) (ranked-same (c .before .before .before .before .before .before .before .before .before .before .before .args .words .now) (c .before .before .before .before .before .before .before .before .before .before .before .args .n) (getD (c .before .before .before .before .before .before .before .before .before .before .before .args .begins .now) (c .before .before .before .before .before .before .before .before .before .before .before .args .place) 0) (c .before .before .before .before .entries .ensures) (c .before .before .before .rank .ensures)) (rw (c .before .before .before .before .entries .ensures) at (c .before .before .if3 .taken)) (c .before .code-same .ensures) (c .if4 .left)
+floor-requires : tie.Need-floor-requires
+floor-requires c κs =
+    let s = c .before .before .before .before .before .before .before .before in
+    let m = rows-inside (getD (s .args .begins .now) (s .args .place) 0) (getD (s .args .begins .now) (s .args .place + 1) 0) (s .args .n + 1) (length (s .args .words .now)) (c .before .before .before .if1 .left) (c .before .before .if2 .left) in
+    (omega arith, (rw (c .before .entries .ensures) m, s .pre .1 .1))
 
-returns-5 : tie.Need-returns-5
-returns-5 c = spot-past (c .before .before .before .before .before .before .before .before .before .args .words .now) (c .before .before .before .before .before .before .before .before .before .args .begins .now) (c .before .before .before .before .before .before .before .before .before .args .place) (c .before .before .before .before .before .before .before .before .before .args .n) (coloured (c .before .before .before .before .before .before .before .before .before .args .n) (c .before .before .before .before .before .before .before .before .before .args .code)) (coloured-length (c .before .before .before .before .before .before .before .before .before .args .n) (c .before .before .before .before .before .before .before .before .before .args .code)) (c .before .before .before .before .before .before .before .before .before .pre .1 .0) (ranked-same (c .before .before .before .before .before .before .before .before .before .args .words .now) (c .before .before .before .before .before .before .before .before .before .args .n) (getD (c .before .before .before .before .before .before .before .before .before .args .begins .now) (c .before .before .before .before .before .before .before .before .before .args .place) 0) (c .before .before .entries .ensures) (c .before .rank .ensures)) (rw (c .before .before .entries .ensures) at (c .if3 .left))
+-- the entry that the bisection ends at lies inside the words
+inside : (c : tie.After-floor) → getD (c .before .before .before .before .before .before .before .before .before .args .begins .now) (c .before .before .before .before .before .before .before .before .before .args .place) 0 + c .floor .result * (c .before .before .before .before .before .before .before .before .before .args .n + 1) + (c .before .before .before .before .before .before .before .before .before .args .n + 1) ≤ length (c .before .before .before .before .before .before .before .before .before .args .words .now)
+inside c =
+    let s = c .before .before .before .before .before .before .before .before .before in
+    floor-inside (c .floor .ensures) (getD (s .args .begins .now) (s .args .place + 1) 0) (c .before .before .entries .ensures) (c .before .before .before .before .if1 .left) (c .before .before .before .if2 .left)
 
-rank-requires : tie.Need-rank-requires
-rank-requires c κs = (rw (c .entries .ensures) (rows-inside (getD (c .before .before .before .before .before .before .before .args .begins .now) (c .before .before .before .before .before .before .before .args .place) 0) (getD (c .before .before .before .before .before .before .before .args .begins .now) (c .before .before .before .before .before .before .before .args .place + 1) 0) (c .before .before .before .before .before .before .before .args .n + 1) (length (c .before .before .before .before .before .before .before .args .words .now)) (c .before .before .if1 .left) (c .before .if2 .left)), c .before .before .before .before .before .before .before .pre .1 .1)
-
--- the entry at the rank, or the end of the place's entries, lies inside the words
 mul-at : tie.Need-mul-at
-mul-at c = omega (arith, rank-inside (getD (c .before .before .before .before .before .before .before .before .args .begins .now) (c .before .before .before .before .before .before .before .before .args .place) 0) (getD (c .before .before .before .before .before .before .before .before .args .begins .now) (c .before .before .before .before .before .before .before .before .args .place + 1) 0) (c .before .before .before .before .before .before .before .before .args .n + 1) (length (c .before .before .before .before .before .before .before .before .args .words .now)) (c .rank .result) (c .before .before .before .if1 .left) (c .before .before .if2 .left) (omega (arith, ranked-same (c .before .before .before .before .before .before .before .before .args .words .now) (c .before .before .before .before .before .before .before .before .args .n) (getD (c .before .before .before .before .before .before .before .before .args .begins .now) (c .before .before .before .before .before .before .before .before .args .place) 0) (c .before .entries .ensures) (c .rank .ensures) .inside, colours-length (c .before .before .before .before .before .before .before .before .args .words .now) (c .before .before .before .before .before .before .before .before .args .n) ((getD (c .before .before .before .before .before .before .before .before .args .begins .now) (c .before .before .before .before .before .before .before .before .args .place + 1) 0 - getD (c .before .before .before .before .before .before .before .before .args .begins .now) (c .before .before .before .before .before .before .before .before .args .place) 0) / (c .before .before .before .before .before .before .before .before .args .n + 1)) (getD (c .before .before .before .before .before .before .before .before .args .begins .now) (c .before .before .before .before .before .before .before .before .args .place) 0))))
+mul-at c = omega (arith, inside c)
 
 add-at : tie.Need-add-at
-add-at c = omega (arith, rank-inside (getD (c .before .before .before .before .before .before .before .before .args .begins .now) (c .before .before .before .before .before .before .before .before .args .place) 0) (getD (c .before .before .before .before .before .before .before .before .args .begins .now) (c .before .before .before .before .before .before .before .before .args .place + 1) 0) (c .before .before .before .before .before .before .before .before .args .n + 1) (length (c .before .before .before .before .before .before .before .before .args .words .now)) (c .rank .result) (c .before .before .before .if1 .left) (c .before .before .if2 .left) (omega (arith, ranked-same (c .before .before .before .before .before .before .before .before .args .words .now) (c .before .before .before .before .before .before .before .before .args .n) (getD (c .before .before .before .before .before .before .before .before .args .begins .now) (c .before .before .before .before .before .before .before .before .args .place) 0) (c .before .entries .ensures) (c .rank .ensures) .inside, colours-length (c .before .before .before .before .before .before .before .before .args .words .now) (c .before .before .before .before .before .before .before .before .args .n) ((getD (c .before .before .before .before .before .before .before .before .args .begins .now) (c .before .before .before .before .before .before .before .before .args .place + 1) 0 - getD (c .before .before .before .before .before .before .before .before .args .begins .now) (c .before .before .before .before .before .before .before .before .args .place) 0) / (c .before .before .before .before .before .before .before .before .args .n + 1)) (getD (c .before .before .before .before .before .before .before .before .args .begins .now) (c .before .before .before .before .before .before .before .before .args .place) 0))))
+add-at c = omega (arith, inside c)
 
-add-code-same : tie.Need-add-code-same
-add-code-same c = omega (arith, row-inside (getD (c .before .before .before .before .before .before .before .before .before .args .begins .now) (c .before .before .before .before .before .before .before .before .before .args .place) 0) (getD (c .before .before .before .before .before .before .before .before .before .args .begins .now) (c .before .before .before .before .before .before .before .before .before .args .place + 1) 0) (c .before .before .before .before .before .before .before .before .before .args .n + 1) (length (c .before .before .before .before .before .before .before .before .before .args .words .now)) (c .before .rank .result) (c .before .before .before .before .if1 .left) (c .before .before .before .if2 .left) (rw (c .before .before .entries .ensures) at (c .if3 .taken)))
+add-code-at : tie.Need-add-code-at
+add-code-at c = omega (arith, inside c)
 
-code-same-requires : tie.Need-code-same-requires
-code-same-requires c κs = (c .before .before .before .before .before .before .before .before .before .pre .1 .1 .0, (omega (arith, row-inside (getD (c .before .before .before .before .before .before .before .before .before .args .begins .now) (c .before .before .before .before .before .before .before .before .before .args .place) 0) (getD (c .before .before .before .before .before .before .before .before .before .args .begins .now) (c .before .before .before .before .before .before .before .before .before .args .place + 1) 0) (c .before .before .before .before .before .before .before .before .before .args .n + 1) (length (c .before .before .before .before .before .before .before .before .before .args .words .now)) (c .before .rank .result) (c .before .before .before .before .if1 .left) (c .before .before .before .if2 .left) (rw (c .before .before .entries .ensures) at (c .if3 .taken))), c .before .before .before .before .before .before .before .before .before .pre .1 .1 .1))
+code-at-requires : tie.Need-code-at-requires
+code-at-requires c κs = omega (arith, inside c)
 
-mul-count : tie.Need-mul-t20
-mul-count c = omega (arith, row-inside (getD (c .before .before .before .before .before .before .before .before .before .before .before .args .begins .now) (c .before .before .before .before .before .before .before .before .before .before .before .args .place) 0) (getD (c .before .before .before .before .before .before .before .before .before .before .before .args .begins .now) (c .before .before .before .before .before .before .before .before .before .before .before .args .place + 1) 0) (c .before .before .before .before .before .before .before .before .before .before .before .args .n + 1) (length (c .before .before .before .before .before .before .before .before .before .before .before .args .words .now)) (c .before .before .before .rank .result) (c .before .before .before .before .before .before .if1 .left) (c .before .before .before .before .before .if2 .left) (rw (c .before .before .before .before .entries .ensures) at (c .before .before .if3 .taken)))
+mul-count : tie.Need-mul-t18
+mul-count c = omega (arith, inside (c .before .before))
 
-read-count : tie.Need-shared-slice-read-t22
-read-count c = omega (arith, row-inside (getD (c .before .before .before .before .before .before .before .before .before .before .before .before .args .begins .now) (c .before .before .before .before .before .before .before .before .before .before .before .before .args .place) 0) (getD (c .before .before .before .before .before .before .before .before .before .before .before .before .args .begins .now) (c .before .before .before .before .before .before .before .before .before .before .before .before .args .place + 1) 0) (c .before .before .before .before .before .before .before .before .before .before .before .before .args .n + 1) (length (c .before .before .before .before .before .before .before .before .before .before .before .before .args .words .now)) (c .before .before .before .before .rank .result) (c .before .before .before .before .before .before .before .if1 .left) (c .before .before .before .before .before .before .if2 .left) (rw (c .before .before .before .before .before .entries .ensures) at (c .before .before .before .if3 .taken)))
+read-count : tie.Need-shared-slice-read-t20
+read-count c = omega (arith, inside (c .before .before .before))
+
+add-next : tie.Need-add-t22
+add-next c = omega (arith, inside (c .before .before .before))
+
+returns-4 : tie.Need-returns-4
+returns-4 c =
+    let x = c .before .before in
+    let f = x .before in
+    let s = f .before .before .before .before .before .before .before .before .before in
+    spot-there (coloured-length (s .args .n) (s .args .code)) (s .pre .1 .0) (f .before .before .entries .ensures) (f .floor .ensures) (sym (x .code-at .ensures .same) ∙ ap (coloured (s .args .n)) (c .before .if4 .taken))
+
+returns-5 : tie.Need-returns-5
+returns-5 c =
+    let x = c .before .before in
+    let f = x .before in
+    let s = f .before .before .before .before .before .before .before .before .before in
+    spot-before (coloured-length (s .args .n) (s .args .code)) (s .pre .1 .0) (f .before .before .entries .ensures) (f .floor .ensures) (sym (coded-before (s .args .code) (x .code-at .ensures) (s .pre .1 .1 .1)) ∙ lt-ltb _ _ (c .if5 .taken))
+
+returns-6 : tie.Need-returns-6
+returns-6 c =
+    let x = c .before .before in
+    let f = x .before in
+    let s = f .before .before .before .before .before .before .before .before .before in
+    spot-after (coloured-length (s .args .n) (s .args .code)) (s .pre .1 .0) (f .before .before .entries .ensures) (f .floor .ensures) (sym (coded-after (s .args .code) (x .code-at .ensures) (s .pre .1 .1 .1)) ∙ lt-ltb (s .args .code) (x .code-at .result) (omega (arith, c .if5 .left, c .before .if4 .left)))
 
 pub find-spec : {M : Type 1} → statement M
 find-spec =
@@ -60,13 +87,15 @@ find-spec =
     returns-2
     (λ c. search needs)
     (λ c κs. search needs)
-    rank-requires
+    returns-3
+    floor-requires
     mul-at
     add-at
-    add-code-same
-    code-same-requires
+    add-code-at
+    code-at-requires
     mul-count
     read-count
-    returns-3
     returns-4
-    returns-5)
+    add-next
+    returns-5
+    returns-6)
