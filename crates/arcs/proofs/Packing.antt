@@ -1,7 +1,8 @@
 -- The rules of packing the components of an arc into a code: a constant and a VALUE word are a digit each, any other component by its value. The values so far are those of the first expressions, each is held against its
 -- range, and as long as all are in range the code is theirs.
 use mathlib.Core.Path.{_≡_, refl, sym, ap, _∙_, subst}
-use Prim.Native.Nat.{ℕ, zero, suc, _+_, _-_, _*_, _%_, _≤_, _<_, _^_}
+use Prim.Native.Nat.{ℕ, zero, suc, _+_, _-_, _*_, _/_, _%_, _≤_, _<_, _^_}
+use mathlib.Core.Logic.{_⊎_, inl, inr}
 use mathlib.Core.Bool.{Bool, true, false, not, _&&_, and-true, and-false, and-assoc}
 use mathlib.Core.List.{List, [], _∷_, _++_, append-nil}
 use mathlib.Core.Option.{Option, none, some}
@@ -9,23 +10,23 @@ use native.Mathlib.Nat.{pow-suc}
 use native.Mathlib.Numerals.{add-one}
 use native.Mathlib.Omega.{arith}
 use borrow.Author.Needs.{needs}
-use borrow.Author.Tests.{not-true, not-false}
+use borrow.Author.Tests.{not-true, not-false, eqb-true, eq-eqb, ltb-true, lt-ltb}
+use lib.Dec.{eqb}
 use lib.IntN.{ℤ, pos, negsuc}
 use lib.ListN.{length, getD, length-append}
-use Rattle.semantics.specs.Lists.{Every}
-use Rattle.semantics.specs.Word.{kind, payload, signed, within, valueWord}
+use Rattle.semantics.specs.Word.{kind, payload, only, signed, within, valueWord}
 use Rattle.semantics.specs.Expression.{valuesOf}
 use Rattle.semantics.specs.Reading.{several}
 use Rattle.semantics.specs.ReadNet.{readExpression}
 use Rattle.semantics.specs.Order.{inRanges}
-use Rattle.semantics.proofs.Tests.{false-true, and-left}
-use Rattle.semantics.proofs.Members.{every-number}
-use Rattle.word.specs.Fields.{ends, rangeWord, IsValue}
+use Rattle.semantics.proofs.Tests.{false-true, either, and-left, and-right}
+use Rattle.word.specs.Fields.{ends, rangeWord}
 use Rattle.expression.specs.Standing.{HasExpression, HasSeveral}
 use Rattle.evaluation.specs.declared.evaluate.Evaluated.{Evaluated}
 use Rattle.evaluation.specs.declared.evaluate.Evaluated.the-variants.{Value, NoValue}
-use Rattle.evaluation.specs.Evaluate.{lent, evaluated, evaluatedFrom}
-use Rattle.evaluation.proofs.Single.{begins-in-words, begin-fits, variable-there, constant-at, variable-at}
+use Rattle.numbers.specs.declared.number.Number.the-variants.{Some as Number-some, None as Number-none}
+use Rattle.evaluation.specs.Evaluate.{valueOf, lent, valued, evaluated, evaluatedFrom}
+use Rattle.evaluation.proofs.Single.{begins-in-words, begin-fits, variable-there, constant-at, variable-at, unbound-at}
 use Rattle.net.specs.Places.{rangesFrom}
 use Rattle.colours.specs.Code.{ofDigit, coloured, IsCode}
 use Rattle.net.proofs.Standing.{first-of, others-of}
@@ -38,19 +39,41 @@ use Rattle.arcs.specs.declared.flow.Packed.{Packed}
 use Rattle.arcs.specs.declared.flow.Packed.the-variants.{Code, Outside, Nothing}
 use Rattle.arcs.specs.Flow.{colourAt}
 use Rattle.arcs.specs.Keys.{Componented, IsComponent, IsPut, Packs, IsPacked, Below}
-use Rattle.evaluation.proofs.Answers.{Valued, known-valued, value-known}
+use Rattle.evaluation.proofs.Answers.{Valued, known-valued}
 use Rattle.arcs.proofs.Colours.{front, front-nil, front-front, colour-value, colour-none}
 
 -- ── One component ──
+
+-- a lone variable has the value of its word
+lone-told : (ws bs : List ℕ) (at : ℕ) → HasExpression ws (length bs) at → {k u : ℕ} → k ≡ kind (getD ws at 0) → u ≡ payload (getD ws at 0) → k ≡ 8 → (o : Option ℤ) → o ≡ valueOf (getD bs u 0) → evaluatedFrom (lent bs) (readExpression ws (length bs) at) ≡ valued o (at + 1)
+lone-told ws bs at h e g i (some z) f = sym (variable-at ws bs at h e {n = Number-some z} g i f refl refl)
+lone-told ws bs at h e g i none f = sym (unbound-at ws bs at h e {n = Number-none} g i f refl)
 
 module _ {ws bs : List ℕ} {at : ℕ} (h : HasExpression ws (length bs) at) {k : ℕ} (e : k ≡ kind (getD ws at 0)) where
   pub constant-digit : {d : ℕ} → k ≡ 7 → ofDigit d ≡ signed (getD ws at 0 % 16384) → d < 16384 → IsComponent ws bs at (Digit d (at + 1))
   constant-digit i f l = record { told = (sym (constant-at ws bs at h e i f), l) }
 
-  pub variable-digit : {u d : ℕ} → Every IsValue bs → u ≡ payload (getD ws at 0) → k ≡ 8 → ofDigit d ≡ signed (getD bs u 0 % 16384) → d < 16384 → IsComponent ws bs at (Digit d (at + 1))
-  variable-digit {u} v g i f l =
-      let w = value-known (getD bs u 0) (every-number IsValue bs u 0 v (variable-there h e g i)) in
-      record { told = (sym (variable-at ws bs at h e g i (ap some f ∙ sym w) refl refl), l) }
+  pub variable-told : {u : ℕ} {r : Component} → u ≡ payload (getD ws at 0) → k ≡ 8 → Componented (valued (valueOf (getD bs u 0)) (at + 1)) r → IsComponent ws bs at r
+  variable-told {u} g i f = record { told = rw (lone-told ws bs at h e g i (valueOf (getD bs u 0)) refl) f }
+
+-- a word of the binding, by its upper bits
+module _ (w next : ℕ) where
+  pub word-none : (w / 16384 ≡ 0x30000 → ⊥) → Componented (valued (valueOf w) next) Component-none
+  word-none f = (next, ap (λ (o : Option ℤ). valued o next) (by (either (eqb (kind w) 0xC && only 14 (payload w)))))
+    where
+      by : ((eqb (kind w) 0xC && only 14 (payload w)) ≡ true) ⊎ ((eqb (kind w) 0xC && only 14 (payload w)) ≡ false) → valueOf w ≡ none
+      by (inl t) =
+          let a = eqb-true (kind w) 0xC (and-left (eqb (kind w) 0xC) _ t) in
+          let b = ltb-true (payload w) 16384 (and-right (eqb (kind w) 0xC) _ t) in
+          absurd (f (omega arith))
+      by (inr t) = rw t
+
+  pub word-digit : {d : ℕ} → w / 16384 ≡ 0x30000 → ofDigit d ≡ signed (w % 16384) → d < 16384 → Componented (valued (valueOf w) next) (Digit d next)
+  word-digit e f l =
+      let a : eqb (kind w) 0xC ≡ true = eq-eqb (kind w) 0xC (omega arith) in
+      let b : only 14 (payload w) ≡ true = lt-ltb (payload w) 16384 (omega arith) in
+      let p : payload w ≡ w % 16384 = omega arith in
+      (rw (a, b, p, f), l)
 
 module _ (ws bs : List ℕ) (at : ℕ) {r : Evaluated} (h : evaluated r ≡ evaluatedFrom (lent bs) (readExpression ws (length bs) at)) where
   pub computed-none : {p : ℕ} → r ≡ NoValue p → IsComponent ws bs at Component-none
@@ -73,7 +96,7 @@ module _ {ws bs : List ℕ} {at : ℕ} {r u : Component} (x : IsComponent ws bs 
 pub digit-low : {ws bs : List ℕ} {at d p : ℕ} {r : Component} → IsComponent ws bs at r → r ≡ Digit d p → d < 16384
 digit-low x e = component-is x e .1
 
-pub ruleset components = (needs, begins-in-words, begin-fits, variable-there, constant-digit, variable-digit, computed-none, computed-outside, computed-digit)
+pub ruleset components = (needs, begins-in-words, begin-fits, variable-there, constant-digit, variable-told, word-none, word-digit, computed-none, computed-outside, computed-digit)
 
 -- ── Held against its range ──
 

@@ -136,11 +136,29 @@ abbrev pub gatheredBy : List ℕ → List ℕ → Option (List Flow) → Option 
 gatheredBy ws ps none = none
 gatheredBy ws ps (some fs) = given (every (fitsAt ws ps) fs) (select moving fs)
 
--- those of the arcs at positions, as the keys and amounts that stand at the front of two lists
+-- what the i first of the arcs at positions move is known, as the n keys and amounts that stand at the front of two lists
+pub record Known (ws ps bs ats : List ℕ) (i n : ℕ) (keys amounts : List ℕ) : Type 0 where
+  pub inside : i ≤ length ats
+  pub few : n ≤ i
+  pub fit : Every (KeyFits ws ps) (take n keys)
+  pub flows : List Flow
+  pub told : flowsAt ws ps bs (take i ats) ≡ some flows
+  pub same : gatheredBy ws ps (some flows) ≡ some (keyFlows ws ps (take n keys) (take n amounts))
+
+-- what all of them move, and as far as that is known; the lists, written in lent arrays, are as long as those
 pub record IsGathered (ws ps bs ats : List ℕ) (r : Gathered) (keys amounts : List ℕ) : Type 0 where
+  pub keys-full : length keys ≡ 8
+  pub amounts-full : length amounts ≡ 8
   pub same : given (r .some) (keyFlows ws ps (take (r .n) keys) (take (r .n) amounts)) ≡ gatheredBy ws ps (flowsAt ws ps bs ats)
   pub few : r .n ≤ 8
-  pub fit : Every (KeyFits ws ps) (take (r .n) keys)
+  pub known : Known ws ps bs ats (r .arcs) (r .n) keys amounts
+
+-- the first n keys and amounts are left as they were, in lists of the same length
+pub record Keeps (n : ℕ) (keys amounts keys′ amounts′ : List ℕ) : Type 0 where
+  pub keys-kept : take n keys′ ≡ take n keys
+  pub amounts-kept : take n amounts′ ≡ take n amounts
+  pub keys-long : length keys′ ≡ length keys
+  pub amounts-long : length amounts′ ≡ length amounts
 
 -- the sum of the amounts of a key
 unfoldable pub sumOf : List ℕ → List ℕ → ℕ → ℕ

@@ -11,16 +11,14 @@ use word::fields::within;
 ghost use mathlib.Core.Path.{_≡_};
 ghost use Prim.Native.Nat.{_≤_, _<_, _+_, _^_};
 ghost use lib.ListN.{length};
-ghost use Rattle.semantics.specs.Lists.{Every};
 ghost use Rattle.semantics.specs.ReadNet.{readExpression};
-ghost use Rattle.word.specs.Fields.{IsValue};
 ghost use Rattle.expression.specs.Standing.{HasExpression, HasSeveral};
-ghost use Rattle.evaluation.specs.Evaluate.{lent};
+ghost use Rattle.evaluation.specs.Evaluate.{lent, valueOf, valued};
 ghost use Rattle.net.specs.Places.{PlacesFit};
 ghost use Rattle.net.specs.Standing.{HasArc};
 ghost use Rattle.colours.specs.Code.{ofDigit};
 ghost use Rattle.arcs.specs.Flow.{coefficientOf};
-ghost use Rattle.arcs.specs.Keys.{coefficientRead, IsComponent, IsPut, IsPacked, Below, movedBy, IsMoved};
+ghost use Rattle.arcs.specs.Keys.{coefficientRead, Componented, IsComponent, IsPut, IsPacked, Below, movedBy, IsMoved};
 
 // The tokens that a coefficient tells, and the position after it; none where it has no value or is negative.
 pub enum Coefficient {
@@ -67,16 +65,25 @@ fn computed_at(net: &[u32], binding: &[u32], at: usize) -> Component
     }
 }
 
+// The component that a word of the binding is: a VALUE word is its digit, no other word has a value.
+fn bound_digit(w: u32, next: usize) -> Component
+    ensures { λ r. ⌜ Componented (valued (valueOf w) next) r ⌝ }
+{
+    if w / 16384 != 0x3_0000 {
+        return Component::Nothing;
+    }
+    Component::Digit(digit_of(w), next)
+}
+
 // The component that stands at a position. A constant or a lone variable, the common case, is a digit straight from its word.
 fn component_at(net: &[u32], binding: &[u32], at: usize) -> Component
     requires { ⌜ HasExpression (now net) (length (now binding)) at ⌝ }
-    requires { ⌜ Every IsValue (now binding) ⌝ }
     ensures { λ r. ⌜ IsComponent (now (net .entry)) (now (binding .entry)) at r ⌝ }
 {
     let w = net[at];
     match kind(w) {
         7 => Component::Digit(digit_of(w), at + 1),
-        8 => Component::Digit(digit_of(binding[payload(w) as usize]), at + 1),
+        8 => bound_digit(binding[payload(w) as usize], at + 1),
         0..=6 | 9..=15 => computed_at(net, binding, at),
         _ => computed_at(net, binding, at),
     }
@@ -119,7 +126,6 @@ pub enum Packed {
 fn pack(net: &[u32], binding: &[u32], ranges: usize, n: usize, at: usize) -> Packed
     requires { ⌜ (n ≤ 4) × (ranges + n ≤ length (now net)) ⌝ }
     requires { ⌜ HasSeveral (now net) (length (now binding)) n at ⌝ }
-    requires { ⌜ Every IsValue (now binding) ⌝ }
     ensures { λ r. ⌜ IsPacked (now (net .entry)) (now (binding .entry)) ranges n at r ⌝ }
 {
     let mut coded = Coded {
@@ -186,7 +192,6 @@ fn tokens_of(place: usize, amount: u32, colour: Packed) -> Moved
 pub fn move_at(net: &[u32], places: &[usize], binding: &[u32], at: usize) -> Moved
     requires { ⌜ PlacesFit (now net) (now places) ⌝ }
     requires { ⌜ HasArc (now net) (now places) (length (now binding)) at ⌝ }
-    requires { ⌜ Every IsValue (now binding) ⌝ }
     ensures { λ r. ⌜ IsMoved (now (net .entry)) (now (places .entry)) (now (binding .entry)) at r ⌝ }
 {
     let place = payload(net[at]) as usize;

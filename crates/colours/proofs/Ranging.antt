@@ -9,7 +9,7 @@ use native.Mathlib.Omega.{arith}
 use lib.Dec.{leb}
 use lib.IntN.{ℤ, pos, negsuc}
 use lib.Signed.{leZ, mag}
-use Rattle.semantics.specs.Word.{signed, bits, valueWord, within}
+use Rattle.semantics.specs.Word.{signed, valueWord, within}
 use Rattle.semantics.proofs.Tests.{either, not-both}
 use Rattle.semantics.proofs.Words.{within-mag}
 use Rattle.word.specs.Fields.{ends, rangeWord}

@@ -3,21 +3,18 @@
 use mathlib.Core.Path.{_≡_, refl, sym, ap, _∙_}
 use mathlib.Core.List.{List, [], _∷_, map}
 use mathlib.Core.Option.{Option, none, some, bind}
-use Prim.Native.Nat.{ℕ, zero, suc, _%_, _<_, _^_}
-use native.Mathlib.Omega.{arith}
+use Prim.Native.Nat.{ℕ, zero, suc, _<_, _^_}
 use borrow.Author.Tests.{lt-ltb}
 use lib.IntN.{ℤ}
 use lib.Signed.{mag}
 use lib.ListN.{length}
 use Rattle.semantics.specs.Lists.{Every}
-use Rattle.semantics.specs.Word.{modulo, signed, valueWord}
+use Rattle.semantics.specs.Word.{modulo, valueWord}
 use Rattle.semantics.specs.Expression.{Expression, houseTable, value, bound}
 use Rattle.semantics.specs.Reading.{Reading, read, refused}
 use Rattle.semantics.specs.ReadNet.{readExpression}
 use Rattle.semantics.proofs.Tests.{false-true}
-use Rattle.semantics.proofs.Accepted.{signed-small}
 use Rattle.semantics.proofs.Words.{modulo-below, value-kind, value-payload, signed-modulo}
-use Rattle.word.specs.Fields.{IsValue}
 use Rattle.evaluation.specs.declared.evaluate.Evaluated.{Evaluated}
 use Rattle.evaluation.specs.declared.evaluate.Evaluated.the-variants.{Value, NoValue}
 use Rattle.evaluation.specs.Evaluate.{valueOf, lent, valued, evaluated, evaluatedFrom}
@@ -62,10 +59,6 @@ module _ (ws : List ℕ) (variables at : ℕ) {e : Expression} {next : ℕ} (x :
 -- a value as it is written
 pub value-written : (z : ℤ) → mag z < 8192 → valueOf (valueWord z) ≡ some z
 value-written z h = rw (value-kind z, value-payload z, lt-ltb (modulo z (2 ^ 14)) (2 ^ 14) (modulo-below z), signed-modulo z h)
-
--- a VALUE word has a value
-pub value-known : (w : ℕ) → IsValue w → valueOf w ≡ some (signed (w % 16384))
-value-known w h = ap valueOf (sym h) ∙ value-written (signed (w % 16384)) (signed-small (w % 16384) (omega arith))
 
 -- the VALUE words of a binding, as an environment, are the binding
 pub lent-bound : (b : List ℤ) → Every (λ z. mag z < 8192) b → (n : ℕ) → lent (map valueWord b) n ≡ bound b n

@@ -16,7 +16,7 @@ use Rattle.net.specs.Skim.{Outline}
 use Rattle.net.specs.Places.{rangesFrom}
 use Rattle.marking.specs.Marked.{bindingRead}
 use Rattle.situations.specs.Situation.{Index, outlined, Prepared, IsSituation}
-use Rattle.testing.proofs.Testing.{unbound-refused, bound-read, bound-length, bound-values, bound-lent}
+use Rattle.testing.proofs.Testing.{unbound-refused, bound-read, bound-length, bound-lent}
 use Rattle.steps.specs.Steps.{fireEnd}
 use Rattle.firing.specs.Fire.{FireableAt, IsFiredAt}
 
@@ -53,7 +53,6 @@ module _ {ws : List ℕ} {t : ℕ} {ms : List ℕ} {s : Index} (p : Prepared ws 
       begun = p .begins;
       many = bound-length p bs r x e;
       values = bound-lent p bs r x e;
-      words = bound-values p bs r x e;
     }
 
     -- how many conjuncts and output arcs are lent is told as differences

@@ -10,7 +10,6 @@ use native.Mathlib.Omega.{arith}
 use borrow.Author.Tests.{le-leb, leb-true, not-true, not-false}
 use lib.IntN.{ℤ}
 use lib.ListN.{length, take}
-use lib.Seq.{length-take-le}
 use Rattle.semantics.specs.declared.Fired.{Fired}
 use Rattle.semantics.specs.declared.Fired.the-variants.{Refused as FireRefused}
 use Rattle.semantics.specs.Refusal.{mostCount, notEnabled, badOutput, overCount}
@@ -38,7 +37,7 @@ use Rattle.guards.specs.Guard.{guardAt}
 use Rattle.arcs.specs.Keys.{keyPlace, keyColour, keyFlows, fitsAt, moving, gatheredBy, IsGathered}
 use Rattle.arcs.proofs.Keyed.{total-moving, flow-keyed}
 use Rattle.occurrence.specs.Answers.{IsEnabledAt, IsTaken}
-use Rattle.occurrence.proofs.Covering.{taken-unguarded, taken-unmoved}
+use Rattle.occurrence.proofs.Covering.{enabled-unguarded, enabled-unmoved, keys-few, keys-paired, keys-fit}
 use Rattle.occurrence.proofs.Reading.{inputs-told, outputs-told, enabled-told}
 use Rattle.changes.specs.Keys.{keysFrom}
 use Rattle.firing.specs.Fire.{FireableAt}
@@ -65,21 +64,17 @@ gathers ws ps (some fs) ks as′ e = by (either (every (fitsAt ws ps) fs))
     by (inr h) = none-some (sym (e ∙ ap (λ (t : Bool). given t (select moving fs)) h))
 
 -- keys that were gathered, with their amounts, are taken and made
-pub gathered-moves : {ws ps bs is os begins : List ℕ} {ins outs : Gathered} {ikeys iamounts okeys oamounts : List ℕ} → PlacesFit ws ps → length begins ≡ 65 → IsGathered ws ps bs is ins ikeys iamounts → length ikeys ≡ 8 → length iamounts ≡ 8 → IsGathered ws ps bs os outs okeys oamounts → length okeys ≡ 8 → length oamounts ≡ 8 → Moves ws ps (take (ins .n) ikeys) (take (ins .n) iamounts) (take (outs .n) okeys) (take (outs .n) oamounts) begins
-gathered-moves {ws} {ps} {bs} fits full i a b o c d = record { fits = fits; begins-full = full; ins = keyed i a b; outs = keyed o c d }
+pub gathered-moves : {ws ps bs is os begins : List ℕ} {ins outs : Gathered} {ikeys iamounts okeys oamounts : List ℕ} → PlacesFit ws ps → length begins ≡ 65 → IsGathered ws ps bs is ins ikeys iamounts → IsGathered ws ps bs os outs okeys oamounts → Moves ws ps (take (ins .n) ikeys) (take (ins .n) iamounts) (take (outs .n) okeys) (take (outs .n) oamounts) begins
+gathered-moves {ws} {ps} {bs} fits full i o = record { fits = fits; begins-full = full; ins = keyed i; outs = keyed o }
   where
-    keyed : {ats : List ℕ} {r : Gathered} {keys amounts : List ℕ} → IsGathered ws ps bs ats r keys amounts → length keys ≡ 8 → length amounts ≡ 8 → Keyed ws ps (take (r .n) keys) (take (r .n) amounts)
-    keyed {r = r} {keys = keys} {amounts = amounts} x k a =
-        let few = x .few in
-        let i = length-take-le (r .n) keys (omega arith) in
-        let j = length-take-le (r .n) amounts (omega arith) in
-        record { few = omega arith; same = j ∙ sym i; fit = x .fit }
+    keyed : {ats : List ℕ} {r : Gathered} {keys amounts : List ℕ} → IsGathered ws ps bs ats r keys amounts → Keyed ws ps (take (r .n) keys) (take (r .n) amounts)
+    keyed x = record { few = keys-few x; same = keys-paired x; fit = keys-fit x }
 
-gathered-some : {ws ps bs ats : List ℕ} {r : Gathered} {keys amounts : List ℕ} → r .some ≡ true → IsGathered ws ps bs ats r keys amounts → IsGathered ws ps bs ats (record { some = true; n = r .n }) keys amounts
-gathered-some s x = record { same = rw s at (x .same); few = x .few; fit = x .fit }
+gathered-some : {ws ps bs ats : List ℕ} {r : Gathered} {keys amounts : List ℕ} → r .some ≡ true → IsGathered ws ps bs ats r keys amounts → IsGathered ws ps bs ats (record { some = true; arcs = r .arcs; n = r .n }) keys amounts
+gathered-some s x = record { keys-full = x .keys-full; amounts-full = x .amounts-full; same = rw s at (x .same); few = x .few; known = x .known }
 
 -- what was taken is what an enabled binding takes
-pub taken-known : {ws ps gs is ms begins bs : List ℕ} {r : Gathered} {keys amounts : List ℕ} → IsTaken ws ps gs is ms begins bs r keys amounts → not (r .some) ≡ false → IsEnabledAt ws ps gs is ms begins bs true × IsGathered ws ps bs is (record { some = true; n = r .n }) keys amounts
+pub taken-known : {ws ps gs is ms begins bs : List ℕ} {r : Gathered} {keys amounts : List ℕ} → IsTaken ws ps gs is ms begins bs r keys amounts → not (r .some) ≡ false → IsEnabledAt ws ps gs is ms begins bs true × IsGathered ws ps bs is (record { some = true; arcs = r .arcs; n = r .n }) keys amounts
 taken-known {r = r} x d = let s = not-false (r .some) d in (rw s at (x .enabled), gathered-some s (x .gathered s))
 
 -- the effect of flows is that of the keys gathered from them
@@ -147,18 +142,18 @@ module _ {ws ps gs is os ms begins bs : List ℕ} (q : FireableAt ws ps gs is os
     enabled = sym (enabled-is e)
 
     -- so all that its input arcs take is gathered
-    pub enabled-gathered : {ins : Gathered} {ikeys iamounts : List ℕ} → IsGathered ws ps bs is ins ikeys iamounts → IsGathered ws ps bs is (record { some = true; n = ins .n }) ikeys iamounts
+    pub enabled-gathered : {ins : Gathered} {ikeys iamounts : List ℕ} → IsGathered ws ps bs is ins ikeys iamounts → IsGathered ws ps bs is (record { some = true; arcs = ins .arcs; n = ins .n }) ikeys iamounts
     enabled-gathered {ins} {ikeys} {iamounts} x = gathered-some (by (either (ins .some))) x
       where
-        unmoved : ins .some ≡ false → (guardAt ws bs gs ≡ true) ⊎ (guardAt ws bs gs ≡ false) → IsTaken ws ps gs is ms begins bs (record { some = false; n = 0 }) ikeys iamounts
-        unmoved f (inl g) = taken-unmoved ws ps gs is ms begins bs {g = guardAt ws bs gs} refl (ap not g) x (ap not f)
-        unmoved f (inr g) = taken-unguarded ws ps gs is ms begins bs {g = guardAt ws bs gs} refl (ap not g)
+        unmoved : ins .some ≡ false → (guardAt ws bs gs ≡ true) ⊎ (guardAt ws bs gs ≡ false) → IsEnabledAt ws ps gs is ms begins bs false
+        unmoved f (inl g) = enabled-unmoved ws ps gs is ms begins bs {g = guardAt ws bs gs} refl (ap not g) x (ap not f)
+        unmoved f (inr g) = enabled-unguarded ws ps gs is ms begins bs {g = guardAt ws bs gs} refl (ap not g)
 
         by : (ins .some ≡ true) ⊎ (ins .some ≡ false) → ins .some ≡ true
         by (inl t) = t
-        by (inr f) = absurd (not-both _ enabled (sym (enabled-is (unmoved f (either (guardAt ws bs gs)) .enabled))))
+        by (inr f) = absurd (not-both _ enabled (sym (enabled-is (unmoved f (either (guardAt ws bs gs))))))
 
-    module _ {n : ℕ} {ikeys iamounts : List ℕ} (i : IsGathered ws ps bs is (record { some = true; n = n }) ikeys iamounts) where
+    module _ {arcs n : ℕ} {ikeys iamounts : List ℕ} (i : IsGathered ws ps bs is (record { some = true; arcs = arcs; n = n }) ikeys iamounts) where
       taken : Gathers ws ps (flows houseTable (bound (q .binding)) (q .transition .inputs)) (take n ikeys) (take n iamounts)
       taken = gathers ws ps (flows houseTable (bound (q .binding)) (q .transition .inputs)) (take n ikeys) (take n iamounts) (i .same ∙ ap (gatheredBy ws ps) inputs-are)
 

@@ -15,7 +15,6 @@ use Rattle.semantics.specs.Lists.{Every}
 use Rattle.semantics.specs.Marking.{Entry, countsOf}
 use Rattle.semantics.specs.Run.{fire}
 use Rattle.semantics.specs.Calls.{firedBy}
-use Rattle.word.specs.Fields.{IsValue}
 use Rattle.evaluation.specs.Evaluate.{lent}
 use Rattle.net.specs.Skim.{outline}
 use Rattle.net.specs.Places.{placesAt}
@@ -43,7 +42,6 @@ pub record FireableAt (ws ps gs is os ms begins bs : List ℕ) : Type 0 where
   pub begun : Begins entries begins
   pub many : length bs ≡ length (transition .variables)
   pub values : lent bs ≡ bound binding
-  pub words : Every IsValue bs
 
 -- the answer, and the buffer after it
 pub record IsFiredAt (ws ps gs is os ms begins bs buffer : List ℕ) (r : Fired) (after : List ℕ) : Type 0 where
@@ -65,8 +63,9 @@ pub record IsFiredEnabled (ws ps is os ms begins bs buffer : List ℕ) (r : Fire
 pub record TakenAt (ws ps os ms begins bs keys amounts : List ℕ) (n : ℕ) : Type 0 where
   pub inputs : List ℕ
   pub enabled : EnabledAt ws ps inputs os ms begins bs
-  pub gathered : IsGathered ws ps bs inputs (record { some = true; n = n }) keys amounts
+  pub arcs : ℕ
+  pub gathered : IsGathered ws ps bs inputs (record { some = true; arcs = arcs; n = n }) keys amounts
 
 -- the same for all input arcs that take them
 pub record IsFiredTaken (ws ps os ms begins bs keys amounts : List ℕ) (n : ℕ) (buffer : List ℕ) (r : Fired) (after : List ℕ) : Type 0 where
-  pub fired : (is : List ℕ) → IsGathered ws ps bs is (record { some = true; n = n }) keys amounts → IsFiredEnabled ws ps is os ms begins bs buffer r after
+  pub fired : (is : List ℕ) (arcs : ℕ) → IsGathered ws ps bs is (record { some = true; arcs = arcs; n = n }) keys amounts → IsFiredEnabled ws ps is os ms begins bs buffer r after

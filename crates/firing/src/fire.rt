@@ -30,7 +30,6 @@ fn fire_taken(
     requires { ⌜ PlacesFit (now net) (now places) ⌝ }
     requires { ⌜ length (now begins) ≡ 65 ⌝ }
     requires { ⌜ length (now outputs) ≤ 8 ⌝ }
-    requires { ⌜ (length (now «in_keys») ≡ 8) × (length (now «in_amounts») ≡ 8) ⌝ }
     requires { ⌜ TakenAt (now net) (now places) (now outputs) (now marking) (now begins) (now binding) (now «in_keys») (now «in_amounts») n ⌝ }
     ensures { λ r. ⌜ IsFiredTaken (now (net .entry)) (now (places .entry)) (now (outputs .entry)) (now (marking .entry)) (now (begins .entry)) (now (binding .entry)) (now («in_keys» .entry)) (now («in_amounts» .entry)) n (now (next .entry)) r (now (next .exit)) ⌝ }
 {
@@ -41,8 +40,10 @@ fn fire_taken(
         places,
         binding,
         outputs,
-        &mut out_keys[..],
-        &mut out_amounts[..],
+        0,
+        0,
+        &mut out_keys,
+        &mut out_amounts,
     );
     if !outs.some {
         return Fired::Refused(14, 0);
@@ -89,8 +90,8 @@ fn fire_arcs(
         marking,
         begins,
         binding,
-        &mut keys[..],
-        &mut amounts[..],
+        &mut keys,
+        &mut amounts,
     );
     if !ins.some {
         return Fired::Refused(13, 0);
@@ -128,14 +129,7 @@ pub fn fire_enabled(
 {
     let mut keys = [0u64; 8];
     let mut amounts = [0u32; 8];
-    let ins = gather(
-        net,
-        places,
-        binding,
-        inputs,
-        &mut keys[..],
-        &mut amounts[..],
-    );
+    let ins = gather(net, places, binding, inputs, 0, 0, &mut keys, &mut amounts);
     fire_taken(
         net,
         places,

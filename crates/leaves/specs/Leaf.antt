@@ -9,6 +9,7 @@ use lib.IntN.{ℤ}
 use lib.ListN.{length, drop}
 use Rattle.semantics.specs.Lists.{consIf}
 use Rattle.occurrence.specs.Answers.{IsEnabledAt}
+use Rattle.rows.specs.declared.insert.Inserted.{Inserted}
 use Rattle.rows.specs.Rows.{valuesOfWords, Kept, Listing, addAll, listingOf}
 use Rattle.leaves.specs.declared.progress.Progress.{Progress}
 
@@ -48,6 +49,10 @@ pub record Ended (w most budget n : ℕ) (m : List ℕ) (t : ℕ) (l : Listing) 
   pub beyond : drop (s′ .rows * w) m′ ≡ drop (s′ .rows * w) m
   pub outcome : outcomeOf w s′ m′ ≡ settle budget (t + cost) (addAll most rows l)
 
+-- so many tries, with these rows
+abbrev pub progress : ℕ → Bool → Inserted → Progress
+progress tries spent r = record { tries = tries; rows = r .rows; spent = spent; full = r .full }
+
 -- a full binding b is put among the rows where it is enabled, which u tells
-pub record IsLeaf (ws ps conjuncts inputs ms begins : List ℕ) (most : ℕ) (b : List ℕ) (s : Progress) (m : List ℕ) (s′ : Progress) (m′ : List ℕ) : Type 0 where
-  pub ended : (budget : ℕ) → Unspent budget s → (u : Bool) → ((r : Bool) → IsEnabledAt ws ps conjuncts inputs ms begins b r → r ≡ u) → Ended (length b) most budget (s .rows) m (s .tries) (listingOf (length b) (s .rows) (s .full) m) 0 (consIf u (valuesOfWords b) []) s′ m′
+pub record IsLeaf (ws ps conjuncts inputs ms begins : List ℕ) (most : ℕ) (b : List ℕ) (s : Inserted) (m : List ℕ) (r : Inserted) (m′ : List ℕ) : Type 0 where
+  pub ended : (budget t : ℕ) (spent : Bool) → Unspent budget (progress t spent s) → (u : Bool) → ((q : Bool) → IsEnabledAt ws ps conjuncts inputs ms begins b q → q ≡ u) → Ended (length b) most budget (s .rows) m t (listingOf (length b) (s .rows) (s .full) m) 0 (consIf u (valuesOfWords b) []) (progress t spent r) m′

@@ -115,7 +115,7 @@ module _ {ws ps : List ℕ} {position v : ℕ} {inputs conjuncts elements ms beg
   start-empty : partialOf v (take v (replicate 8 0)) ≡ empty (s .transition)
   start-empty = ap (map valueOf) (take-all v (take v (replicate 8 0)) (rw (length-take {A = ℕ} v (replicate 8 0)) (omega arith))) ∙ empty-slots v 8 (few-variables W) ∙ ap (λ (k : ℕ). replicate k none) (W .many)
 
-  pub start-sound : Sound (s .transition) (drop 0 (s .transition .plan)) (partialOf v (take v (replicate 8 0)))
+  pub start-sound : Sound (s .transition) (s .transition .plan) (partialOf v (take v (replicate 8 0)))
   start-sound = subst (Sound (s .transition) (s .transition .plan)) (sym start-empty) (sound-empty (s .transition) (W .faultless))
 
   proper : Proper (s .net) (s .counts)
@@ -123,20 +123,20 @@ module _ {ws ps : List ℕ} {position v : ℕ} {inputs conjuncts elements ms beg
 
   -- ── What it comes to ──
 
-  module _ (budget : ℕ) (buffer : List ℕ) {r : Progress} {m : List ℕ} (E : Ended v (mostRows (length buffer) v) budget 0 buffer 0 (listed []) (costFrom s (drop 0 (s .transition .plan)) (partialOf v (take v (replicate 8 0)))) (rowsFrom s (drop 0 (s .transition .plan)) (partialOf v (take v (replicate 8 0)))) r m) where
+  module _ (budget : ℕ) (buffer : List ℕ) {r : Progress} {m : List ℕ} (E : Ended v (mostRows (length buffer) v) budget 0 buffer 0 (listed []) (costFrom s (s .transition .plan) (partialOf v (take v (replicate 8 0)))) (rowsFrom s (s .transition .plan) (partialOf v (take v (replicate 8 0)))) r m) where
     offers : List (List ℤ)
     offers = menu houseTable (s .transition) (s .counts)
 
     count : ℕ
     count = allTries houseTable (s .net) (s .transition) (s .counts)
 
-    found : insertAll (rowsFrom s (drop 0 (s .transition .plan)) (partialOf v (take v (replicate 8 0)))) [] ≡ offers
+    found : insertAll (rowsFrom s (s .transition .plan) (partialOf v (take v (replicate 8 0)))) [] ≡ offers
     unfolding offers leaves
     found = ap (λ (p : Partial). insertAll (rowsFrom s (s .transition .plan) p) []) start-empty ∙ found-menu houseTable (s .net) (s .transition) (s .counts) (W .faultless) proper
 
-    counted : 0 + costFrom s (drop 0 (s .transition .plan)) (partialOf v (take v (replicate 8 0))) ≡ count
+    counted : 0 + costFrom s (s .transition .plan) (partialOf v (take v (replicate 8 0))) ≡ count
     unfolding count allTries
-    counted = zero-add (costFrom s (drop 0 (s .transition .plan)) (partialOf v (take v (replicate 8 0)))) ∙ ap (costFrom s (s .transition .plan)) start-empty
+    counted = zero-add (costFrom s (s .transition .plan) (partialOf v (take v (replicate 8 0)))) ∙ ap (costFrom s (s .transition .plan)) start-empty
 
     fits : menuFits (s .transition) (length buffer) offers ≡ leb (length offers) (mostRows (length buffer) v)
     fits = rows-fit (length buffer) (length (s .transition .variables)) (length offers) ∙ ap (λ (k : ℕ). leb (length offers) (mostRows (length buffer) k)) (sym (W .many))
@@ -144,8 +144,8 @@ module _ {ws ps : List ℕ} {position v : ℕ} {inputs conjuncts elements ms beg
     outcome : outcomeOf v r m ≡ settle budget count (listedIf (leb (length offers) (mostRows (length buffer) v)) offers)
     outcome =
         E .outcome
-        ∙ ap (λ (k : ℕ). settle budget k (addAll (mostRows (length buffer) v) (rowsFrom s (drop 0 (s .transition .plan)) (partialOf v (take v (replicate 8 0)))) (listed []))) counted
-        ∙ ap (settle budget count) (add-all (mostRows (length buffer) v) (rowsFrom s (drop 0 (s .transition .plan)) (partialOf v (take v (replicate 8 0)))))
+        ∙ ap (λ (k : ℕ). settle budget k (addAll (mostRows (length buffer) v) (rowsFrom s (s .transition .plan) (partialOf v (take v (replicate 8 0)))) (listed []))) counted
+        ∙ ap (settle budget count) (add-all (mostRows (length buffer) v) (rowsFrom s (s .transition .plan) (partialOf v (take v (replicate 8 0)))))
         ∙ ap (λ (bs : List (List ℤ)). settle budget count (listedIf (leb (length bs) (mostRows (length buffer) v)) bs)) found
 
     -- 10

@@ -1,7 +1,6 @@
 // The call menu: every enabled binding of a transition in a marking, once, by rising variable 0, then 1 and on.
 use expression::read::Skipped;
-use leaves::progress::Progress;
-use search::walk::walk;
+use search::plan::search_plan;
 use semantics::Listed;
 use situations::situation::prepare;
 use word::size::at_most;
@@ -54,7 +53,7 @@ pub fn list_bindings(
 {
     let mut slots = [0u32; 8];
     let most = most_rows(menu.len(), variables);
-    let end = walk(
+    let end = search_plan(
         net,
         places,
         position,
@@ -64,17 +63,10 @@ pub fn list_bindings(
         elements,
         marking,
         begins,
-        0,
         &mut slots[..variables],
         menu,
         most,
         budget,
-        Progress {
-            tries: 0,
-            rows: 0,
-            spent: false,
-            full: false,
-        },
     );
     if end.spent {
         clear(menu);

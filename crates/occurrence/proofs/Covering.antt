@@ -4,12 +4,13 @@ use mathlib.Core.Path.{_≡_, refl, sym, _∙_}
 use Prim.Native.Nat.{ℕ, zero, suc, _+_, _-_, _*_, _≤_, _<_, _^_}
 use mathlib.Core.Bool.{Bool, true, false, cond, not, _&&_}
 use mathlib.Core.List.{List, [], _∷_}
+use borrow.Author.Needs.{needs}
 use borrow.Author.Tests.{leb-true, eqb-true, eq-eqb, ne-eqb, le-leb, lt-leb, not-true, not-false}
 use native.Mathlib.Numerals.{add-one}
 use native.Mathlib.Omega.{arith}
 use lib.Dec.{eqb, leb}
 use lib.ListN.{length, getD, take, drop, drop-of-length-le}
-use lib.Seq.{drop-cons}
+use lib.Seq.{drop-cons, length-take-le}
 use Rattle.semantics.specs.Lists.{Every, every}
 use Rattle.semantics.specs.Reading.{read}
 use Rattle.semantics.specs.Net.{Place, rangesAt}
@@ -27,6 +28,7 @@ use Rattle.arcs.specs.declared.gather.Gathered.{Gathered}
 use Rattle.arcs.specs.Flow.{flowsAt}
 use Rattle.guards.specs.Guard.{guardAt}
 use Rattle.arcs.specs.Keys.{keyPlace, keyCode, widthOf, keyColour, keyFlow, keyFlows, KeyFits, IsGathered, sumOf}
+use Rattle.arcs.proofs.Gathering.{known-nothing, keeps-all}
 use Rattle.arcs.proofs.Keyed.{Ranged, keys-total, covers-gathered}
 use Rattle.occurrence.specs.Answers.{isRepeated, IsCovered, IsEnabledAt, IsTaken}
 
@@ -140,26 +142,51 @@ marking-ranged ws ps places e ms es next m p c h = rw (← e) (marking-counts (r
 -- ── Enabling ──
 
 module _ (ws ps gs is ms begins bs : List ℕ) where
-  none-taken : {keys amounts : List ℕ} → IsEnabledAt ws ps gs is ms begins bs false → IsTaken ws ps gs is ms begins bs (record { some = false; n = 0 }) keys amounts
+  none-taken : {keys amounts : List ℕ} → IsEnabledAt ws ps gs is ms begins bs false → IsTaken ws ps gs is ms begins bs (record { some = false; arcs = 0; n = 0 }) keys amounts
   none-taken e = record { enabled = e; gathered = λ t. false-true t }
 
-  module _ {g : Bool} (h : g ≡ guardAt ws bs gs) {keys amounts : List ℕ} where
-    pub taken-unguarded : not g ≡ true → IsTaken ws ps gs is ms begins bs (record { some = false; n = 0 }) keys amounts
-    taken-unguarded d = none-taken (record { enabled = λ places e es next m b. let k : guardAt ws bs gs ≡ false = sym h ∙ not-true _ d in rw k })
+  module _ {g : Bool} (h : g ≡ guardAt ws bs gs) where
+    pub enabled-unguarded : not g ≡ true → IsEnabledAt ws ps gs is ms begins bs false
+    enabled-unguarded d = record { enabled = λ places e es next m b. let k : guardAt ws bs gs ≡ false = sym h ∙ not-true _ d in rw k }
 
-    module _ (d : not g ≡ false) {r : Gathered} (x : IsGathered ws ps bs is r keys amounts) where
+    pub taken-unguarded : {keys amounts : List ℕ} → not g ≡ true → IsTaken ws ps gs is ms begins bs (record { some = false; arcs = 0; n = 0 }) keys amounts
+    taken-unguarded d = none-taken (enabled-unguarded d)
+
+    module _ {keys amounts : List ℕ} (d : not g ≡ false) {r : Gathered} (x : IsGathered ws ps bs is r keys amounts) where
       guarded : guardAt ws bs gs ≡ true
       guarded = sym h ∙ not-false _ d
 
-      pub taken-unmoved : not (r .some) ≡ true → IsTaken ws ps gs is ms begins bs (record { some = false; n = 0 }) keys amounts
-      taken-unmoved f = none-taken (record { enabled = λ places e es next m b. rw (guarded, covers-gathered ws ps (countsOf es) (marking-ranged ws ps places e ms es next m) (flowsAt ws ps bs is), ← x .same, not-true (r .some) f) })
+      pub enabled-unmoved : not (r .some) ≡ true → IsEnabledAt ws ps gs is ms begins bs false
+      enabled-unmoved f = record { enabled = λ places e es next m b. rw (guarded, covers-gathered ws ps (countsOf es) (marking-ranged ws ps places e ms es next m) (flowsAt ws ps bs is), ← x .same, not-true (r .some) f) }
+
+      pub taken-unmoved : not (r .some) ≡ true → IsTaken ws ps gs is ms begins bs (record { some = false; arcs = 0; n = 0 }) keys amounts
+      taken-unmoved f = none-taken (enabled-unmoved f)
 
       module _ (f : not (r .some) ≡ false) {u : Bool} (c : IsCovered ws ps (take (r .n) keys) (take (r .n) amounts) ms begins u) where
-        enabled-by : IsEnabledAt ws ps gs is ms begins bs u
-        enabled-by = record { enabled = λ places e es next m b. rw (guarded, covers-gathered ws ps (countsOf es) (marking-ranged ws ps places e ms es next m) (flowsAt ws ps bs is), ← x .same, not-false (r .some) f) (c .covered places e es next m b) }
+        pub enabled-covered : IsEnabledAt ws ps gs is ms begins bs u
+        enabled-covered = record { enabled = λ places e es next m b. rw (guarded, covers-gathered ws ps (countsOf es) (marking-ranged ws ps places e ms es next m) (flowsAt ws ps bs is), ← x .same, not-false (r .some) f) (c .covered places e es next m b) }
 
-        pub taken-uncovered : not u ≡ true → IsTaken ws ps gs is ms begins bs (record { some = false; n = 0 }) keys amounts
-        taken-uncovered k = none-taken (rw (not-true u k) at enabled-by)
+        pub taken-uncovered : not u ≡ true → IsTaken ws ps gs is ms begins bs (record { some = false; arcs = 0; n = 0 }) keys amounts
+        taken-uncovered k = none-taken (rw (not-true u k) at enabled-covered)
 
         pub taken-covered : not u ≡ false → IsTaken ws ps gs is ms begins bs r keys amounts
-        taken-covered k = record { enabled = rw (not-false (r .some) f) (rw (not-false u k) at enabled-by); gathered = λ t. x }
+        taken-covered k = record { enabled = rw (not-false (r .some) f) (rw (not-false u k) at enabled-covered); gathered = λ t. x }
+
+-- what covering asks for, of the keys that were gathered
+module _ {ws ps bs is : List ℕ} {r : Gathered} {keys amounts : List ℕ} (x : IsGathered ws ps bs is r keys amounts) where
+  pub keys-front : r .n ≡ length (take (r .n) keys)
+  keys-front = let few = x .few in let l = x .keys-full in sym (length-take-le (r .n) keys (omega arith))
+
+  pub amounts-front : r .n ≡ length (take (r .n) amounts)
+  amounts-front = let few = x .few in let l = x .amounts-full in sym (length-take-le (r .n) amounts (omega arith))
+
+  pub keys-few : length (take (r .n) keys) ≤ 8
+  keys-few = let e = keys-front in let few = x .few in omega arith
+
+  pub keys-paired : length (take (r .n) amounts) ≡ length (take (r .n) keys)
+  keys-paired = sym amounts-front ∙ keys-front
+
+  pub keys-fit : Every (KeyFits ws ps) (take (r .n) keys)
+  keys-fit = x .known .fit
+
+pub ruleset enabling = (needs, known-nothing, keeps-all, enabled-unguarded, enabled-unmoved, enabled-covered, taken-unguarded, taken-unmoved, taken-uncovered, keys-front, amounts-front)

@@ -1,6 +1,6 @@
 -- What is told from positions is what semantics says of the transition: each arc and conjunct that was read stands at its position, so it is
 -- read there again. Rests on net/proofs/Located.
-use mathlib.Core.Path.{_≡_, refl, ap, fun-ext, _∙_}
+use mathlib.Core.Path.{_≡_, refl, fun-ext, _∙_}
 use mathlib.Core.Bool.{Bool}
 use Prim.Native.Nat.{ℕ, _<_}
 use mathlib.Core.List.{List, [], _∷_, map}
@@ -15,12 +15,10 @@ use Rattle.semantics.specs.Net.{Place, Arc, Conjunct, Transition}
 use Rattle.semantics.specs.ReadNet.{readArc, readConjunct, readTransition}
 use Rattle.semantics.specs.Marking.{Entry, countsOf}
 use Rattle.semantics.specs.Enabling.{holds, flows, isEnabled}
-use Rattle.word.specs.Fields.{IsValue}
 use Rattle.evaluation.specs.Evaluate.{lent}
 use Rattle.evaluation.proofs.Answers.{lent-bound}
 use Rattle.net.specs.Places.{placesAt}
 use Rattle.net.proofs.Located.{At, transition-parts}
-use Rattle.colours.proofs.Codes.{value-back}
 use Rattle.marking.specs.Marked.{markingRead, Begins}
 use Rattle.arcs.specs.Flow.{flowsAt}
 use Rattle.guards.specs.Guard.{guardAt}
@@ -66,11 +64,3 @@ module _ (ws bs : List ℕ) (places : List Place) (at : ℕ) (t : Transition) (n
 -- the environment of a binding's VALUE words is the binding
 pub binding-lent : (bs : List ℕ) (b : List ℤ) → bs ≡ map valueWord b → Every (λ z. mag z < 8192) b → lent bs ≡ bound b
 binding-lent bs b e h = rw e (fun-ext (lent-bound b h))
-
-words-values : (b : List ℤ) → Every (λ z. mag z < 8192) b → Every IsValue (map valueWord b)
-words-values [] h = tt
-words-values (z ∷ zs) h = (ap valueWord (value-back z (h .0)), words-values zs (h .1))
-
--- each of them is a VALUE word
-pub binding-values : (bs : List ℕ) (b : List ℤ) → bs ≡ map valueWord b → Every (λ z. mag z < 8192) b → Every IsValue bs
-binding-values bs b e h = rw e (words-values b h)

@@ -41,7 +41,7 @@ use Rattle.net.proofs.Parted.{head-inside}
 use Rattle.marking.specs.Marked.{markingRead, Begins, Accepted, Indexed}
 use Rattle.semantics.proofs.Partial.{range-length}
 use Rattle.marking.proofs.Bound.{ranged-small}
-use Rattle.occurrence.proofs.Reading.{binding-lent, binding-values}
+use Rattle.occurrence.proofs.Reading.{binding-lent}
 use Rattle.firing.specs.Fire.{FireableAt}
 use Rattle.rows.proofs.Rows.{row-room}
 use Rattle.arrivals.specs.World.{World}
@@ -278,7 +278,6 @@ module _ {ws ps transitions parts buffer : List ℕ} {size w : ℕ} (P : Pickabl
             begun = begun;
             many = ap length b-words ∙ length-map (picked .0) valueWord ∙ range-length (chosen .0 .variables) (picked .0) b-ranged;
             values = binding-lent (row v′ (w % 16384) after) (picked .0) b-words b-small;
-            words = binding-values (row v′ (w % 16384) after) (picked .0) b-words b-small;
           }
 
           -- the words of the binding stand in the menu

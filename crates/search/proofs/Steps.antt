@@ -1,6 +1,6 @@
 -- Cost and rows of a plan by its first element: they are those of its tries, one after the other.
 use mathlib.Core.Path.{_≡_, refl, ap, _∙_}
-use mathlib.Core.Bool.{Bool, true, false}
+use mathlib.Core.Bool.{Bool}
 use mathlib.Core.List.{List, [], _∷_, _++_, map, map-append}
 use mathlib.Core.Option.{Option, none, some}
 use lib.IntN.{ℤ}
@@ -10,19 +10,11 @@ use Rattle.semantics.specs.Net.{Element}
 use Rattle.semantics.specs.Enabling.{isEnabled}
 use Rattle.semantics.specs.Tries.{Partial, bindingOf, tries, countTries, gather, triesFrom, leavesFrom}
 use Rattle.semantics.specs.Calls.{Situation}
+use Rattle.arcs.proofs.Gathering.{select-append}
 use Rattle.search.specs.Search.{costFrom, rowsFrom}
 use Rattle.search.proofs.Trying.{rowsOver}
 
 -- ── Lists ──
-
-select-append : {A : Type 0} (t : A → Bool) (xs ys : List A) → select t (xs ++ ys) ≡ select t xs ++ select t ys
-unfolding select
-select-append t [] ys = refl
-select-append t (x ∷ xs) ys = by (t x) (select-append t xs ys)
-  where
-    by : (u : Bool) → select t (xs ++ ys) ≡ select t xs ++ select t ys → consIf u x (select t (xs ++ ys)) ≡ consIf u x (select t xs) ++ select t ys
-    by true e = ap (λ l. x ∷ l) e
-    by false e = e
 
 rows-gather : (t : List ℤ → Bool) (f : Partial → List Partial) (os : List (Option Partial)) → select t (map bindingOf (gather f os)) ≡ rowsOver (λ p. select t (map bindingOf (f p))) os
 unfolding gather rowsOver select

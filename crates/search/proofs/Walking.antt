@@ -16,13 +16,16 @@ use Rattle.semantics.specs.Net.{Element}
 use Rattle.semantics.specs.ReadNet.{sortOf}
 use Rattle.semantics.specs.Order.{inRanges}
 use Rattle.semantics.specs.Enabling.{isEnabled}
-use Rattle.semantics.specs.Tries.{Partial, bindingOf, tries, countTries}
+use Rattle.semantics.specs.Tries.{Partial, partly, bindingOf, tries, countTries}
 use Rattle.semantics.specs.Calls.{Situation}
 use Rattle.semantics.proofs.Members.{number-member}
+use Rattle.semantics.proofs.Extending.{Extends, tries-extend}
 use Rattle.semantics.proofs.Leaves.{Sound, sound-fits, sound-next, sound-leaf}
 use Rattle.semantics.proofs.Menu.{binding-full}
 use Rattle.net.specs.Places.{PlacesFit}
-use Rattle.evaluation.specs.Evaluate.{valueOf}
+use Rattle.evaluation.specs.Evaluate.{valueOf, lent}
+use Rattle.arcs.specs.Keys.{Known}
+use Rattle.arcs.proofs.Gathering.{known-kept, known-stays}
 use Rattle.spares.specs.Spare.{without, IsSpare}
 use Rattle.occurrence.specs.Answers.{IsEnabledAt}
 use Rattle.elements.specs.declared.element.Element.{Element as CodeElement}
@@ -30,15 +33,17 @@ use Rattle.elements.specs.Bound.{sorted}
 use Rattle.word.specs.Fields.{IsValue}
 use Rattle.net.specs.Standing.{HasConjunct, HasArc}
 use Rattle.net.proofs.Standing.{inputs-stand, conjuncts-stand}
+use Rattle.rows.specs.declared.insert.Inserted.{Inserted}
 use Rattle.rows.specs.Rows.{valuesOfWords, Listing, listingOf}
 use Rattle.arrivals.specs.declared.step.Step.{Step}
 use Rattle.tries.specs.Partial.{partialOf, IsTried, IsSaved}
+use Rattle.tries.proofs.Slots.{slots-lent}
 use Rattle.arrivals.specs.Step.{Noted, Safe, Ready, triesBy, IsArrival}
 use Rattle.arrivals.specs.World.{World}
 use Rattle.arrivals.proofs.Tries.{arrival-ready, arrival-tries, tries-length}
 use Rattle.leaves.specs.declared.progress.Progress.{Progress}
 use Rattle.search.specs.Search.{costFrom, rowsFrom}
-use Rattle.leaves.specs.Leaf.{Held, Unspent, Ended, IsLeaf}
+use Rattle.leaves.specs.Leaf.{Held, Unspent, Ended, progress, IsLeaf}
 use Rattle.search.proofs.Trying.{rowsOver}
 use Rattle.search.proofs.Worlds.{few-inputs, next-element, as-many}
 use Rattle.search.proofs.Values.{slots-values, full-lent, enabled-full}
@@ -49,6 +54,14 @@ use Rattle.search.proofs.Steps.{cost-step, rows-step, cost-leaf, rows-l
 pub ended-same : {w most budget n : ℕ} {m : List ℕ} {t : ℕ} {l : Listing} {cost : ℕ} {rows : List (List ℤ)} {s′ : Progress} {m′ : List ℕ} {cost′ : ℕ} {rows′ : List (List ℤ)} → cost′ ≡ cost → rows′ ≡ rows → Ended w most budget n m t l cost rows s′ m′ → Ended w most budget n m t l cost′ rows′ s′ m′
 ended-same {w} {most} {budget} {n} {m} {t} {l} {cost} {rows} {s′} {m′} {cost′} {rows′} e f h =
     subst (λ (k : ℕ). Ended w most budget n m t l k rows′ s′ m′) (sym e) (subst (λ (rs : List (List ℤ)). Ended w most budget n m t l cost rs s′ m′) (sym f) h)
+
+-- what is known, in lists that are equal
+pub known-same : {ws ps bs ats : List ℕ} {i n : ℕ} {keys amounts keys′ amounts′ : List ℕ} → keys′ ≡ keys → amounts′ ≡ amounts → Known ws ps bs ats i n keys amounts → Known ws ps bs ats i n keys′ amounts′
+known-same {n = n} e f a = known-kept a (record { keys-kept = ap (take n) e; amounts-kept = ap (take n) f; keys-long = ap length e; amounts-long = ap length f })
+
+-- slots as an environment
+lent-partly : (v : ℕ) (b : List ℕ) → length b ≡ v → lent b ≡ partly (partialOf v b)
+lent-partly v b l = ap lent (sym (take-all v b (omega arith))) ∙ slots-lent v b
 
 -- a try that went on, and what the rest of the plan is handed
 pub record Onward (s : Situation) (v d : ℕ) (b : List ℕ) (most budget : ℕ) (cur : Progress) (m : List ℕ) : Type 0 where
@@ -71,6 +84,16 @@ went {w} {most} {budget} {cur} {m} {cost} {rows} {r₁ = r₁} {m′ = m′} h k
 }
 
 module _ {ws ps : List ℕ} {position v : ℕ} {inputs conjuncts elements ms begins : List ℕ} {s : Situation} (W : World ws ps position v inputs conjuncts elements ms begins s) (d : ℕ) (b : List ℕ) (S : Sound (s .transition) (drop d (s .transition .plan)) (partialOf v b)) where
+  -- ── Arcs ──
+
+  module _ (l : length b ≡ v) where
+    -- the input arcs of the transition stand at their positions, and so do all of them but one
+    pub inputs-there : Every (HasArc ws ps (length b)) inputs
+    inputs-there = inputs-stand ws (s .net .places) position (s .transition) (W .after) (W .there) (length b) (l ∙ W .many) ps (W .placed) (W .arcs)
+
+    pub others-there : (k : ℕ) {tested : List ℕ} → tested ≡ without inputs k → Every (HasArc ws ps (length b)) tested
+    others-there k e = subst (Every (HasArc ws ps (length b))) (sym e) (every-but (HasArc ws ps (length b)) inputs k inputs-there)
+
   -- ── At the end of the plan ──
 
   module _ (h : d ≡ length elements) where
@@ -90,32 +113,29 @@ module _ {ws ps : List ℕ} {position v : ℕ} {inputs conjuncts elements ms beg
       leaf-conjuncts : Every (HasConjunct ws (length b)) conjuncts
       leaf-conjuncts = conjuncts-stand ws (s .net .places) position (s .transition) (W .after) (W .there) (length b) (l ∙ W .many) (W .guards)
 
-      -- the input arcs of the transition stand at their positions, and so do all of them but one
-      pub leaf-inputs : Every (HasArc ws ps (length b)) inputs
-      leaf-inputs = inputs-stand ws (s .net .places) position (s .transition) (W .after) (W .there) (length b) (l ∙ W .many) ps (W .placed) (W .arcs)
+      -- what a leaf asks for, to look up some arcs behind those that are known
+      pub leaf-handed : (tested : List ℕ) {start kept most n : ℕ} {keys amounts m : List ℕ} → length tested ≤ 8 → (length keys ≡ 8) × (length amounts ≡ 8) → Every (HasArc ws ps (length b)) tested → Known ws ps b tested start kept keys amounts → Held v most n m → PlacesFit ws ps × ((length begins ≡ 65) × ((length tested ≤ 8) × (((length keys ≡ 8) × (length amounts ≡ 8)) × (Every (HasConjunct ws (length b)) conjuncts × (Every (HasArc ws ps (length b)) tested × (Known ws ps b tested start kept keys amounts × (Every IsValue b × Held (length b) most n m)))))))
+      leaf-handed tested {most = most} {n = n} {m = m} f e a o k = (W .fits, (W .beginnings, (f, (e, (leaf-conjuncts, (a, (o, (leaf-values, subst (λ (j : ℕ). Held j most n m) (sym l) k))))))))
 
-      pub leaf-others : (k : ℕ) {tested : List ℕ} → tested ≡ without inputs k → Every (HasArc ws ps (length b)) tested
-      leaf-others k e = subst (Every (HasArc ws ps (length b))) (sym e) (every-but (HasArc ws ps (length b)) inputs k leaf-inputs)
-
-      -- what a leaf asks for, to look up some arcs
-      pub leaf-handed : (tested : List ℕ) {most n : ℕ} {m : List ℕ} → length tested ≤ 8 → Every (HasArc ws ps (length b)) tested → Held v most n m → PlacesFit ws ps × ((length begins ≡ 65) × ((length tested ≤ 8) × (Every (HasConjunct ws (length b)) conjuncts × (Every (HasArc ws ps (length b)) tested × (Every IsValue b × Held (length b) most n m)))))
-      leaf-handed tested {most} {n} {m} f a k = (W .fits, (W .beginnings, (f, (leaf-conjuncts, (a, (leaf-values, subst (λ (j : ℕ). Held j most n m) (sym l) k))))))
+      -- the same where nothing is known, and all are looked up
+      pub only-handed : {most n : ℕ} {m : List ℕ} → Held v most n m → PlacesFit ws ps × ((length begins ≡ 65) × ((length inputs ≤ 8) × (Every (HasConjunct ws (length b)) conjuncts × (Every (HasArc ws ps (length b)) inputs × (Every IsValue b × Held (length b) most n m)))))
+      only-handed {most} {n} {m} k = (W .fits, (W .beginnings, (few-inputs W, (leaf-conjuncts, (inputs-there l, (leaf-values, subst (λ (j : ℕ). Held j most n m) (sym l) k))))))
 
       -- a leaf that looks up arcs by which it is told whether its binding is enabled
-      leaf-ended : {tested : List ℕ} {most budget : ℕ} {c : Progress} {m : List ℕ} {r : Progress} {m′ : List ℕ} → ((q : Bool) → IsEnabledAt ws ps conjuncts tested ms begins (take v b) q → q ≡ isEnabled houseTable (s .transition) (s .counts) (full .0)) → Unspent budget c → IsLeaf ws ps conjuncts tested ms begins most b c m r m′ → Ended v most budget (c .rows) m (c .tries) (listingOf v (c .rows) (c .full) m) (costFrom s (drop d (s .transition .plan)) (partialOf v b)) (rowsFrom s (drop d (s .transition .plan)) (partialOf v b)) r m′
-      leaf-ended {tested} {most} {budget} {c} {m} {r} {m′} told u i =
+      leaf-ended : {tested : List ℕ} {most budget t : ℕ} {spent : Bool} {c : Inserted} {m : List ℕ} {r : Inserted} {m′ : List ℕ} → ((q : Bool) → IsEnabledAt ws ps conjuncts tested ms begins (take v b) q → q ≡ isEnabled houseTable (s .transition) (s .counts) (full .0)) → Unspent budget (progress t spent c) → IsLeaf ws ps conjuncts tested ms begins most b c m r m′ → Ended v most budget (c .rows) m t (listingOf v (c .rows) (c .full) m) (costFrom s (drop d (s .transition .plan)) (partialOf v b)) (rowsFrom s (drop d (s .transition .plan)) (partialOf v b)) (progress t spent r) m′
+      leaf-ended {tested} {most} {budget} {t} {spent} {c} {m} {r} {m′} told u i =
           let zs = full .0 in
           let f : bindingOf (partialOf v b) ≡ zs = ap bindingOf (full .1) ∙ binding-full zs in
           let g : valuesOfWords b ≡ zs = ap valuesOfWords (sym all) ∙ slots-values (take v b) zs (full .1) .0 in
           ended-same (ap (λ (es : List Element). costFrom s es (partialOf v b)) none-left ∙ cost-leaf s (partialOf v b))
           (ap (λ (es : List Element). rowsFrom s es (partialOf v b)) none-left ∙ rows-leaf s (partialOf v b) ∙ ap (λ (ys : List ℤ). consIf (isEnabled houseTable (s .transition) (s .counts) ys) ys []) f ∙ ap (λ (ys : List ℤ). consIf (isEnabled houseTable (s .transition) (s .counts) zs) ys []) (sym g))
-          (subst (λ (k : ℕ). Ended k most budget (c .rows) m (c .tries) (listingOf k (c .rows) (c .full) m) 0 (consIf (isEnabled houseTable (s .transition) (s .counts) zs) (valuesOfWords b) []) r m′) l (i .ended budget u (isEnabled houseTable (s .transition) (s .counts) zs) (λ q x. told q (subst (λ (bs : List ℕ). IsEnabledAt ws ps conjuncts tested ms begins bs q) (sym all) x))))
+          (subst (λ (k : ℕ). Ended k most budget (c .rows) m t (listingOf k (c .rows) (c .full) m) 0 (consIf (isEnabled houseTable (s .transition) (s .counts) zs) (valuesOfWords b) []) (progress t spent r) m′) l (i .ended budget t spent u (isEnabled houseTable (s .transition) (s .counts) zs) (λ q x. told q (subst (λ (bs : List ℕ). IsEnabledAt ws ps conjuncts tested ms begins bs q) (sym all) x))))
 
-      pub walked-leaf : {most budget : ℕ} {c : Progress} {m : List ℕ} {r : Progress} {m′ : List ℕ} → Unspent budget c → IsLeaf ws ps conjuncts inputs ms begins most b c m r m′ → Ended v most budget (c .rows) m (c .tries) (listingOf v (c .rows) (c .full) m) (costFrom s (drop d (s .transition .plan)) (partialOf v b)) (rowsFrom s (drop d (s .transition .plan)) (partialOf v b)) r m′
+      pub walked-leaf : {most budget t : ℕ} {spent : Bool} {c : Inserted} {m : List ℕ} {r : Inserted} {m′ : List ℕ} → Unspent budget (progress t spent c) → IsLeaf ws ps conjuncts inputs ms begins most b c m r m′ → Ended v most budget (c .rows) m t (listingOf v (c .rows) (c .full) m) (costFrom s (drop d (s .transition .plan)) (partialOf v b)) (rowsFrom s (drop d (s .transition .plan)) (partialOf v b)) (progress t spent r) m′
       walked-leaf u i = leaf-ended (λ q x. enabled-full W b (full .0) (full .1) (ap length all ∙ l) q x) u i
 
       -- behind a try of an arrival with the slots b₀, all input arcs are looked up but one that is spared
-      pub spared-leaf : {e : CodeElement} {b₀ parts known : List ℕ} {step : Step} → IsArrival ws ps position v inputs conjuncts ms begins e b₀ parts known step → length b₀ ≡ v → {k : ℕ} → IsSpare ws inputs (step .element) parts (step .width) k → {tested : List ℕ} → tested ≡ without inputs k → (i : ℕ) → i < length (tries houseTable (s .net) (s .transition) (s .counts) (sorted (step .element .sort)) (partialOf v b₀)) → getD (tries houseTable (s .net) (s .transition) (s .counts) (sorted (step .element .sort)) (partialOf v b₀)) i none ≡ some (partialOf v b) → {most budget : ℕ} {c : Progress} {m : List ℕ} {r : Progress} {m′ : List ℕ} → Unspent budget c → IsLeaf ws ps conjuncts tested ms begins most b c m r m′ → Ended v most budget (c .rows) m (c .tries) (listingOf v (c .rows) (c .full) m) (costFrom s (drop d (s .transition .plan)) (partialOf v b)) (rowsFrom s (drop d (s .transition .plan)) (partialOf v b)) r m′
+      pub spared-leaf : {e : CodeElement} {b₀ parts known : List ℕ} {step : Step} → IsArrival ws ps position v inputs conjuncts ms begins e b₀ parts known step → length b₀ ≡ v → {k : ℕ} → IsSpare ws inputs (step .element) parts (step .width) k → {tested : List ℕ} → tested ≡ without inputs k → (i : ℕ) → i < length (tries houseTable (s .net) (s .transition) (s .counts) (sorted (step .element .sort)) (partialOf v b₀)) → getD (tries houseTable (s .net) (s .transition) (s .counts) (sorted (step .element .sort)) (partialOf v b₀)) i none ≡ some (partialOf v b) → {most budget t : ℕ} {spent : Bool} {c : Inserted} {m : List ℕ} {r : Inserted} {m′ : List ℕ} → Unspent budget (progress t spent c) → IsLeaf ws ps conjuncts tested ms begins most b c m r m′ → Ended v most budget (c .rows) m t (listingOf v (c .rows) (c .full) m) (costFrom s (drop d (s .transition .plan)) (partialOf v b)) (rowsFrom s (drop d (s .transition .plan)) (partialOf v b)) (progress t spent r) m′
       spared-leaf {b₀ = b₀} A l₀ {k} sp e i h on u x =
           let n : length (partialOf v b₀) ≡ length (s .transition .variables) = length-map (take v b₀) valueOf ∙ ap length (take-all v b₀ (omega arith)) ∙ l₀ ∙ W .many in
           leaf-ended (λ q y. told-without W k e (take v b) (full .0) (ap length all ∙ l) (full-lent v b (full .0) (full .1)) y ∙ told-spared W A sp (partialOf v b) (full .0) (full .1) n i h on) u x
@@ -129,6 +149,7 @@ module _ {ws ps : List ℕ} {position v : ℕ} {inputs conjuncts elements ms beg
     pub count : length (tries houseTable (s .net) (s .transition) (s .counts) (sorted (step .element .sort)) (partialOf v b)) ≡ step .count
     pub same : triesBy ws (position + 1) v ms step parts (partialOf v b) ≡ tries houseTable (s .net) (s .transition) (s .counts) (sorted (step .element .sort)) (partialOf v b)
     pub sound : (q : Partial) (i : ℕ) → i < length (tries houseTable (s .net) (s .transition) (s .counts) (sorted (step .element .sort)) (partialOf v b)) → getD (tries houseTable (s .net) (s .transition) (s .counts) (sorted (step .element .sort)) (partialOf v b)) i none ≡ some q → Sound (s .transition) (drop (d + 1) (s .transition .plan)) q
+    pub extends : (q : Partial) (i : ℕ) → i < length (tries houseTable (s .net) (s .transition) (s .counts) (sorted (step .element .sort)) (partialOf v b)) → getD (tries houseTable (s .net) (s .transition) (s .counts) (sorted (step .element .sort)) (partialOf v b)) i none ≡ some q → Extends (partly (partialOf v b)) (partly q)
     pub safe : Safe ms v step
     pub ready : Ready ws v step
     pub noted : Noted v b parts known
@@ -143,12 +164,14 @@ module _ {ws ps : List ℕ} {position v : ℕ} {inputs conjuncts elements ms beg
       let t : triesBy ws (position + 1) v ms step parts (partialOf v b) ≡ tries houseTable (s .net) (s .transition) (s .counts) (sorted (e .sort)) (partialOf v b) = arrival-tries W A (partialOf v b) (f .0) (f .1 .0) (rw g (f .1 .1)) in
       let u : triesBy ws (position + 1) v ms step parts (partialOf v b) ≡ tries houseTable (s .net) (s .transition) (s .counts) (sorted (step .element .sort)) (partialOf v b) = t ∙ ap (λ x. tries houseTable (s .net) (s .transition) (s .counts) x (partialOf v b)) (sym j) in
       let o : tries houseTable (s .net) (s .transition) (s .counts) (n .element .sort) (partialOf v b) ≡ tries houseTable (s .net) (s .transition) (s .counts) (sorted (step .element .sort)) (partialOf v b) = ap (λ x. tries houseTable (s .net) (s .transition) (s .counts) x (partialOf v b)) (sym (j ∙ g)) in
+      let among : (q : Partial) (i : ℕ) → i < length (tries houseTable (s .net) (s .transition) (s .counts) (sorted (step .element .sort)) (partialOf v b)) → getD (tries houseTable (s .net) (s .transition) (s .counts) (sorted (step .element .sort)) (partialOf v b)) i none ≡ some q → List·Memᴰ (some q) (tries houseTable (s .net) (s .transition) (s .counts) (n .element .sort) (partialOf v b)) = λ q i l x. subst (λ (os : List (Option Partial)). List·Memᴰ (some q) os) (sym o) (number-member (tries houseTable (s .net) (s .transition) (s .counts) (sorted (step .element .sort)) (partialOf v b)) i none (some q) l x) in
       record {
         cost = ap (λ (es : List Element). costFrom s es (partialOf v b)) (n .ahead) ∙ cost-step s (n .element) (drop (d + 1) (s .transition .plan)) (partialOf v b) ∙ ap (countTries (costFrom s (drop (d + 1) (s .transition .plan)))) o;
         rows = ap (λ (es : List Element). rowsFrom s es (partialOf v b)) (n .ahead) ∙ rows-step s (n .element) (drop (d + 1) (s .transition .plan)) (partialOf v b) ∙ ap (rowsOver (rowsFrom s (drop (d + 1) (s .transition .plan)))) o;
         count = ap length (sym u) ∙ tries-length ws (position + 1) v ms step parts (partialOf v b);
         same = u;
-        sound = λ q i l x. sound-next houseTable (s .net) (s .counts) S′ q (subst (λ (os : List (Option Partial)). List·Memᴰ (some q) os) (sym o) (number-member (tries houseTable (s .net) (s .transition) (s .counts) (sorted (step .element .sort)) (partialOf v b)) i none (some q) l x));
+        sound = λ q i l x. sound-next houseTable (s .net) (s .counts) S′ q (among q i l x);
+        extends = λ q i l x. tries-extend houseTable (s .net) (s .counts) S′ q (among q i l x);
         safe = A .safe;
         ready = arrival-ready W A;
         noted = A .noted;
@@ -164,6 +187,12 @@ module _ {ws ps : List ℕ} {position v : ℕ} {inputs conjuncts elements ms beg
 
     pub try-off : on ≡ false → getD (tries houseTable (s .net) (s .transition) (s .counts) (sorted (step .element .sort)) (partialOf v b)) i none ≡ none
     try-off f = told ∙ ap (λ (u : Bool). given u (partialOf v b′)) f
+
+    -- what is known on arrival is known behind it
+    pub known-behind : length b ≡ v → length b′ ≡ v → i < length (tries houseTable (s .net) (s .transition) (s .counts) (sorted (step .element .sort)) (partialOf v b)) → on ≡ true → {tested : List ℕ} {start kept : ℕ} {keys amounts : List ℕ} → Known ws ps b tested start kept keys amounts → Known ws ps b′ tested start kept keys amounts
+    known-behind l l′ h f k =
+        let g = P .extends (partialOf v b′) i h (try-on f) in
+        known-stays ws ps b b′ (l′ ∙ sym l) (λ n z e. ap (λ env. env n) (lent-partly v b′ l′) ∙ g n z (sym (ap (λ env. env n) (lent-partly v b l)) ∙ e)) k
 
     -- where it does not go on, the slots are as they were
     pub try-left : on ≡ false → b′ ≡ b

@@ -2,3 +2,5 @@
 
 // The search, by recursion over the plan.
 pub mod walk;
+// The search over a whole plan.
+pub mod plan;

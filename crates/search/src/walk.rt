@@ -1,4 +1,5 @@
 // The search: from a partial binding over the rest of the plan, each try counted against the budget.
+use arcs::gather::gather;
 use arrivals::step::arrive;
 use arrivals::step::try_at;
 use elements::element::Element;
@@ -33,7 +34,8 @@ fn element_at(net: &[u32], at: usize) -> Element
 }
 
 // Walks the plan from the element `depth` on. A try writes the slots; what they held on arrival is put back after it, so they are left as they were.
-// A try of the last element that goes on is a leaf at once, which need not look up the arc that was matched, where that arc is spared.
+// A try of the last element that goes on is a leaf at once, which need not look up the arc that was matched, where that arc is spared. What the first of
+// the other arcs take, as far as the slots tell it on arrival, is gathered once for all tries.
 pub fn walk(
     net: &[u32],
     places: &[usize],
@@ -52,27 +54,13 @@ pub fn walk(
     s: Progress,
 ) -> Progress
     requires { ⌜ World (now net) (now places) position variables (now inputs) (now conjuncts) (now elements) (now marking) (now begins) (sceneOf (now net) position (now marking)) ⌝ }
-    requires { ⌜ (depth ≤ length (now elements)) × (length (now slots) ≡ variables) ⌝ }
+    requires { ⌜ (depth < length (now elements)) × (length (now slots) ≡ variables) ⌝ }
     requires { ⌜ Sound (sceneOf (now net) position (now marking) .transition) (drop depth (sceneOf (now net) position (now marking) .transition .plan)) (partialOf variables (now slots)) ⌝ }
     requires { ⌜ Held variables most (s .rows) (now menu) ⌝ }
     requires { ⌜ Unspent budget s ⌝ }
     ensures { λ r. ⌜ Ended variables most budget (s .rows) (now (menu .entry)) (s .tries) (listingOf variables (s .rows) (s .full) (now (menu .entry))) (costFrom (sceneOf (now (net .entry)) position (now (marking .entry))) (drop depth (sceneOf (now (net .entry)) position (now (marking .entry)) .transition .plan)) (partialOf variables (now (slots .entry)))) (rowsFrom (sceneOf (now (net .entry)) position (now (marking .entry))) (drop depth (sceneOf (now (net .entry)) position (now (marking .entry)) .transition .plan)) (partialOf variables (now (slots .entry)))) r (now (menu .exit)) ⌝ }
     ensures { λ r. ⌜ now (slots .exit) ≡ now (slots .entry) ⌝ }
 {
-    if depth == elements.len() {
-        return leaf(
-            net,
-            places,
-            conjuncts,
-            inputs,
-            marking,
-            begins,
-            slots,
-            menu,
-            most,
-            s,
-        );
-    }
     let mut parts = [0u32; 4];
     let mut known = [0u32; 4];
     let step = arrive(
@@ -96,6 +84,10 @@ pub fn walk(
         spare_of(net, inputs, e, &parts, step.width),
         &mut tested,
     );
+    let tested = &tested[..n];
+    let mut keys = [0u64; 8];
+    let mut amounts = [0u32; 8];
+    let first = gather(net, places, slots, tested, 0, 0, &mut keys, &mut amounts);
     let mut saved = [0u32; 8];
     save(slots, &mut saved);
     let mut cur = s;
@@ -120,18 +112,25 @@ pub fn walk(
             i,
         ) {
             if depth + 1 == elements.len() {
-                cur = leaf(
+                let one = leaf(
                     net,
                     places,
                     conjuncts,
-                    &tested[..n],
+                    tested,
                     marking,
                     begins,
                     slots,
+                    first.arcs,
+                    first.n,
+                    &mut keys,
+                    &mut amounts,
                     menu,
                     most,
-                    cur,
+                    cur.rows,
+                    cur.full,
                 );
+                cur.rows = one.rows;
+                cur.full = one.full;
             } else {
                 cur = walk(
                     net,

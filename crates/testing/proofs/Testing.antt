@@ -14,7 +14,6 @@ use Rattle.semantics.specs.Expression.{bound}
 use Rattle.semantics.specs.Reading.{read, refused}
 use Rattle.semantics.specs.Marking.{readBinding}
 use Rattle.semantics.specs.Calls.{yesOrNo, testCall}
-use Rattle.word.specs.Fields.{IsValue}
 use Rattle.expression.specs.declared.read.Skipped.{Skipped}
 use Rattle.expression.specs.declared.read.Skipped.the-variants.{Next, Refused}
 use Rattle.expression.specs.Skip.{forget, skipped}
@@ -30,7 +29,7 @@ use Rattle.semantics.proofs.Partial.{range-length}
 use Rattle.marking.proofs.Bound.{IsBinding, binding-read, ranged-small}
 use Rattle.occurrence.specs.Answers.{IsEnabledAt}
 use Rattle.situations.specs.Situation.{Index, outlined, Prepared, IsSituation}
-use Rattle.occurrence.proofs.Reading.{enabled-told, binding-lent, binding-values}
+use Rattle.occurrence.proofs.Reading.{enabled-told, binding-lent}
 
 pub test-refused : (ws : List ℕ) (t : ℕ) (ms bs : List ℕ) {s : Index} {n p : ℕ} → IsSituation ws t ms s → s .end ≡ Refused n p → TestRefused n p ≡ testCall ws t ms bs
 unfolding testCall
@@ -73,10 +72,7 @@ module _ {ws : List ℕ} {t : ℕ} {ms : List ℕ} {s : Index} (p : Prepared ws 
       bound-small : Every (λ z. mag z < 8192) (bound-read .0)
       bound-small = ranged-small ws (s .transition .variables) (s .position + 1) (bound-read .0) (rw variables-same (is-binding .ranged))
 
-      -- the words of the binding are VALUE words, and say what the binding says
-      pub bound-values : Every IsValue bs
-      bound-values = binding-values bs (bound-read .0) (is-binding .words) bound-small
-
+      -- the words of the binding say what the binding says
       pub bound-lent : lent bs ≡ bound (bound-read .0)
       bound-lent = binding-lent bs (bound-read .0) (is-binding .words) bound-small
 

@@ -1,5 +1,5 @@
 -- `marking::index::read_marking` meets its contract: the loop of `Rising`. The table that is lent keeps its length.
-use mathlib.Core.Path.{_≡_, sym, _∙_}
+use mathlib.Core.Path.{sym, _∙_}
 use Prim.Native.Nat.{_-_}
 use lib.ListN.{length, length-set}
 use lib.Seq.{getD-set-same}

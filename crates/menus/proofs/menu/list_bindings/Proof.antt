@@ -19,28 +19,28 @@ slots-full v h = length-take-le v (replicate {A = ℕ} 8 0) (omega arith)
 slots-borrow : tie.Need-array-borrow-prefix-slots
 slots-borrow c = few-variables (c .before .before .before .before .before .before .before .before .before .pre)
 
-slots-slice : tie.Need-slice-aggregate-walk
+slots-slice : tie.Need-slice-aggregate-search-plan
 slots-slice c = sym (slots-full _ (few-variables (c .before .before .before .before .before .before .before .before .before .before .pre)))
 
-walk-requires : tie.Need-walk-requires
-walk-requires c κs =
+search-plan-requires : tie.Need-search-plan-requires
+search-plan-requires c κs =
     let W = (c .before .before .before .before .before .before .before .before .before .before .before .pre) in
-    (W, ((omega arith, slots-full _ (few-variables W)), (start-sound W, (subst (λ (k : ℕ). Held ((c .before .before .before .before .before .before .before .before .before .before .before .args) .variables) k 0 ((c .before .before .before .before .before .before .before .before .before .before .before .args) .menu .now)) (sym ((c .before .before .most-rows) .ensures)) (held-none ((c .before .before .before .before .before .before .before .before .before .before .before .args) .variables) (length ((c .before .before .before .before .before .before .before .before .before .before .before .args) .menu .now)) ((c .before .before .before .before .before .before .before .before .before .before .before .args) .menu .now) refl), record { paid = omega arith; on = refl }))))
+    (W, (slots-full _ (few-variables W), (start-sound W, subst (λ (k : ℕ). Held ((c .before .before .before .before .before .before .before .before .before .before .before .args) .variables) k 0 ((c .before .before .before .before .before .before .before .before .before .before .before .args) .menu .now)) (sym ((c .before .before .most-rows) .ensures)) (held-none ((c .before .before .before .before .before .before .before .before .before .before .before .args) .variables) (length ((c .before .before .before .before .before .before .before .before .before .before .before .args) .menu .now)) ((c .before .before .before .before .before .before .before .before .before .before .before .args) .menu .now) refl))))
 
 returns : tie.Need-returns
 unfolding rowsOf
-returns c = let W = (c .before .before .before .before .before .before .before .before .before .before .before .before .before .before .before .before .before .before .before .before .pre) in record { listed = listed-10 W ((c .before .before .before .before .before .before .before .before .before .before .before .before .before .before .before .before .before .before .before .before .args) .budget) ((c .before .before .before .before .before .before .before .before .before .before .before .before .before .before .before .before .before .before .before .before .args) .menu .now) (ended-most ((c .before .before .before .before .before .before .before .before .before .before .before .most-rows) .ensures) ((c .before .before .before .before .before .before .before .before .walk) .ensures .0)) ((c .before .before .before .before .if1) .taken) ((c .before .before .clear) .ensures) ((c .before .before .before .before .before .before .before .before .walk) .kept .1 .1 .1 .1 .1 .1 .1 .1 .1 .1 .1 .0) }
+returns c = let W = (c .before .before .before .before .before .before .before .before .before .before .before .before .before .before .before .before .before .before .before .before .pre) in record { listed = listed-10 W ((c .before .before .before .before .before .before .before .before .before .before .before .before .before .before .before .before .before .before .before .before .args) .budget) ((c .before .before .before .before .before .before .before .before .before .before .before .before .before .before .before .before .before .before .before .before .args) .menu .now) (ended-most ((c .before .before .before .before .before .before .before .before .before .before .before .most-rows) .ensures) ((c .before .before .before .before .before .before .before .before .search-plan) .ensures)) ((c .before .before .before .before .if1) .taken) ((c .before .before .clear) .ensures) ((c .before .before .before .before .before .before .before .before .search-plan) .kept .1 .1 .1 .1 .1 .1 .1 .1 .1 .1 .0) }
 
 returns-2 : tie.Need-returns-2
 unfolding rowsOf
-returns-2 c = let W = (c .before .before .before .before .before .before .before .before .before .before .before .before .before .before .before .before .before .before .before .before .before .pre) in record { listed = listed-11 W ((c .before .before .before .before .before .before .before .before .before .before .before .before .before .before .before .before .before .before .before .before .before .args) .budget) ((c .before .before .before .before .before .before .before .before .before .before .before .before .before .before .before .before .before .before .before .before .before .args) .menu .now) (ended-most ((c .before .before .before .before .before .before .before .before .before .before .before .before .most-rows) .ensures) ((c .before .before .before .before .before .before .before .before .before .walk) .ensures .0)) ((c .before .before .before .before .before .if1) .left) ((c .before .before .before .before .if2) .taken) ((c .before .before .clear2) .ensures) ((c .before .before .before .before .before .before .before .before .before .walk) .kept .1 .1 .1 .1 .1 .1 .1 .1 .1 .1 .1 .0) }
+returns-2 c = let W = (c .before .before .before .before .before .before .before .before .before .before .before .before .before .before .before .before .before .before .before .before .before .pre) in record { listed = listed-11 W ((c .before .before .before .before .before .before .before .before .before .before .before .before .before .before .before .before .before .before .before .before .before .args) .budget) ((c .before .before .before .before .before .before .before .before .before .before .before .before .before .before .before .before .before .before .before .before .before .args) .menu .now) (ended-most ((c .before .before .before .before .before .before .before .before .before .before .before .before .most-rows) .ensures) ((c .before .before .before .before .before .before .before .before .before .search-plan) .ensures)) ((c .before .before .before .before .before .if1) .left) ((c .before .before .before .before .if2) .taken) ((c .before .before .clear2) .ensures) ((c .before .before .before .before .before .before .before .before .before .search-plan) .kept .1 .1 .1 .1 .1 .1 .1 .1 .1 .1 .0) }
 
-rows-cast : tie.Need-cast-t28
-rows-cast c = let f = most-roomy (length ((c .before .before .before .before .before .before .before .before .before .before .before .before .before .before .before .before .before .before .args) .menu .now)) ((c .before .before .before .before .before .before .before .before .before .before .before .before .before .before .before .before .before .before .args) .variables) .few in let w = (c .before .before .before .before .before .before .walk) .ensures .0 .within in let e = (c .before .before .before .before .before .before .before .before .before .most-rows) .ensures in search needs
+rows-cast : tie.Need-cast-t27
+rows-cast c = let f = most-roomy (length ((c .before .before .before .before .before .before .before .before .before .before .before .before .before .before .before .before .before .before .args) .menu .now)) ((c .before .before .before .before .before .before .before .before .before .before .before .before .before .before .before .before .before .before .args) .variables) .few in let w = (c .before .before .before .before .before .before .search-plan) .ensures .within in let e = (c .before .before .before .before .before .before .before .before .before .most-rows) .ensures in search needs
 
 returns-3 : tie.Need-returns-3
 unfolding rowsOf
-returns-3 c = let W = (c .before .before .before .before .before .before .before .before .before .before .before .before .before .before .before .before .before .before .pre) in record { listed = listed-found W ((c .before .before .before .before .before .before .before .before .before .before .before .before .before .before .before .before .before .before .args) .budget) ((c .before .before .before .before .before .before .before .before .before .before .before .before .before .before .before .before .before .before .args) .menu .now) (ended-most ((c .before .before .before .before .before .before .before .before .before .most-rows) .ensures) ((c .before .before .before .before .before .before .walk) .ensures .0)) ((c .before .before .if1) .left) ((c .before .if2) .left) }
+returns-3 c = let W = (c .before .before .before .before .before .before .before .before .before .before .before .before .before .before .before .before .before .before .pre) in record { listed = listed-found W ((c .before .before .before .before .before .before .before .before .before .before .before .before .before .before .before .before .before .before .args) .budget) ((c .before .before .before .before .before .before .before .before .before .before .before .before .before .before .before .before .before .before .args) .menu .now) (ended-most ((c .before .before .before .before .before .before .before .before .before .most-rows) .ensures) ((c .before .before .before .before .before .before .search-plan) .ensures)) ((c .before .before .if1) .left) ((c .before .if2) .left) }
 
 pub list-bindings-spec : {M : Type 1} → statement M
 list-bindings-spec =
@@ -49,7 +49,7 @@ list-bindings-spec =
     (λ c κs. search needs)
     slots-borrow
     slots-slice
-    walk-requires
+    search-plan-requires
     (λ c κs. search needs)
     (λ c. search needs)
     returns

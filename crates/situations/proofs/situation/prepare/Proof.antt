@@ -4,10 +4,9 @@ use mathlib.Core.Path.{_≡_, sym, _∙_}
 use Prim.Native.Nat.{_≤_, _<_}
 use native.Mathlib.Omega.{arith}
 use borrow.Author.Needs.{needs}
-use lib.ListN.{length, getD, take, drop, length-append, length-drop, List·getD-append}
+use lib.ListN.{length, getD, drop, length-append, length-drop, List·getD-append}
 use mathlib.Core.List.{_++_}
 use lib.Seq.{length-take-le}
-use Rattle.net.specs.Places.{PlacesFit}
 use Rattle.situations.proofs.Situations.{net-unaccepted, transition-unknown, places-fit, word-inside, told}
 use Rattle.situations.proofs.situation.prepare.Statement.{statement}
 use Rattle.situations.proofs.situation.prepare.Tie as tie

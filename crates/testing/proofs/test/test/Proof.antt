@@ -5,7 +5,7 @@ use native.Mathlib.Omega.{arith}
 use lib.ListN.{length}
 use lib.Seq.{length-take-le}
 use Rattle.semantics.specs.Calls.{yesOrNo}
-use Rattle.testing.proofs.Testing.{variables-inside, bound-values, test-conjuncts, test-inputs, test-refused, test-unbound, test-answers}
+use Rattle.testing.proofs.Testing.{variables-inside, test-conjuncts, test-inputs, test-refused, test-unbound, test-answers}
 use borrow.Author.Needs.{needs}
 use Rattle.testing.proofs.test.test.Statement.{statement}
 use Rattle.testing.proofs.test.test.Tie as tie
@@ -68,7 +68,7 @@ is-enabled-requires c κs =
     let b = c .before .before .before .before .before .before .before .read-binding in
     let bs = n .before .before .before .before .before .before .before .args .binding .now in
     let e = c .before .before .before .before .before .enum-told2 .given .1 in
-    (P .fits, (begins-full n, (omega arith, (test-conjuncts P bs (b .result) (b .ensures) e (16 + n .prepare .result .transition .conjuncts - 16) (omega arith), (test-inputs P bs (b .result) (b .ensures) e, bound-values P bs (b .result) (b .ensures) e)))))
+    (P .fits, (begins-full n, (omega arith, (test-conjuncts P bs (b .result) (b .ensures) e (16 + n .prepare .result .transition .conjuncts - 16) (omega arith), test-inputs P bs (b .result) (b .ensures) e))))
 
 returns : tie.Need-returns
 returns c =
