@@ -192,20 +192,26 @@ module _ {ws bs : List ℕ} {at left : ℕ} {r : Outcome} (y : IsOutcome ws bs a
           onward = rw (m .next-is, m .left-is) (onward-more p (z .onward));
         }
 
--- ── The measure: twice the words left, and one more behind an operator ──
+-- ── The measure: three times the words left, one more for an operand and two more behind an operator ──
 
-pub behind-measure : {ws : List ℕ} {v at left n : ℕ} → Stands ws v at left → 2 * left ≡ n → 2 * (left - 1) + 1 < n
+pub behind-measure : {ws : List ℕ} {v at left n : ℕ} → Stands ws v at left → 3 * left ≡ n → 3 * (left - 1) + 2 < n
 behind-measure s d = let q = some-left s in omega arith
 
-pub operand-measure : (left : ℕ) {n : ℕ} → 2 * left + 1 ≡ n → 2 * left < n
-operand-measure left d = omega arith
+pub load-measure : (left : ℕ) {n : ℕ} → 3 * left + 2 ≡ n → 3 * left < n
+load-measure left d = omega arith
 
-pub second-measure : {ws bs : List ℕ} {at left n : ℕ} {r : Outcome} → IsOutcome ws bs at left r → 2 * left + 1 ≡ n → 2 * r .left < n
+pub first-measure : (left : ℕ) {n : ℕ} → 3 * left + 2 ≡ n → 3 * left + 1 < n
+first-measure left d = omega arith
+
+pub second-measure : {ws bs : List ℕ} {at left n : ℕ} {r : Outcome} → IsOutcome ws bs at left r → 3 * left + 2 ≡ n → 3 * r .left + 1 < n
 second-measure y d = let q = y .onward in omega arith
 
-pub ruleset evaluating = (needs, in-words, next-fits, some-left, in-range, no-operator, no-kind, load-stands, two-stand, constant, variable, loaded, operated-on, behind-measure)
+pub operand-measure : (left : ℕ) {n : ℕ} → 3 * left + 1 ≡ n → 3 * left < n
+operand-measure left d = omega arith
 
-pub ruleset operating = (needs, first-stands, second-stands, load-operand, operands, operand-measure, second-measure)
+pub ruleset evaluating = (needs, in-words, next-fits, some-left, in-range, no-operator, no-kind, load-stands, two-stand, constant, variable, loaded, operated-on, behind-measure, operand-measure)
+
+pub ruleset operating = (needs, first-stands, second-stands, load-operand, operands, load-measure, first-measure, second-measure)
 
 -- ── Values in outcomes ──
 

@@ -109,13 +109,33 @@ fn evaluate_within(words: &[u32], binding: &[u32], at: usize, left: usize) -> Ou
     }
 }
 
+// The same of an operand. A constant or a lone variable, the common case, is told from its word: so short a path goes into the function that operates.
+fn evaluate_operand(words: &[u32], binding: &[u32], at: usize, left: usize) -> Outcome
+    requires { ⌜ Stands (now words) (length (now binding)) at left ⌝ }
+    ensures { λ r. ⌜ IsOutcome (now (words .entry)) (now (binding .entry)) at left r ⌝ }
+{
+    let w = words[at];
+    let rest = payload(w);
+    match kind(w) {
+        7 => Outcome {
+            some: true,
+            z: signed(w),
+            next: at + 1,
+            left: left - 1,
+        },
+        8 => outcome_of(value_of(binding[rest as usize]), at + 1, left - 1),
+        0..=6 | 9..=15 => evaluate_within(words, binding, at, left),
+        _ => evaluate_within(words, binding, at, left),
+    }
+}
+
 // The operator of a code on the two expressions at a position, which take at most `left` words.
 fn evaluate_two(words: &[u32], binding: &[u32], code: u32, at: usize, left: usize) -> Outcome
     requires { ⌜ StandTwo (now words) (length (now binding)) at left ⌝ }
     ensures { λ r. ⌜ IsTwo (now (words .entry)) (now (binding .entry)) code at left r ⌝ }
 {
-    let a = evaluate_within(words, binding, at, left);
-    let b = evaluate_within(words, binding, a.next, a.left);
+    let a = evaluate_operand(words, binding, at, left);
+    let b = evaluate_operand(words, binding, a.next, a.left);
     outcome_of(operate(code, value_in(a), value_in(b)), b.next, b.left)
 }
 
