@@ -1,14 +1,16 @@
 -- The rules of indexing a marking that is known to be accepted: the loop of `Rising`, of which every turn that refuses is ruled out by what is known, so
--- that an entry's place and end can be told from its TOKEN word alone.
+-- that an entry's place and end can be told from its TOKEN word alone; and that loop taken place by place, since entries rise.
 use mathlib.Core.Path.{_≡_, refl, sym, ap, _∙_, subst}
 use Prim.Native.Nat.{ℕ, zero, suc, _+_, _*_, _-_, _/_, _%_, _≤_, _<_}
 use mathlib.Core.Logic.{_⊎_, inl, inr}
 use mathlib.Core.Bool.{true, false}
 use mathlib.Core.List.{List, [], _∷_}
+use borrow.Author.Tests.{ltb-true, ltb-false}
 use native.Mathlib.Nat.{suc-mul, zero-mul, eq-or-lt-of-le}
 use native.Mathlib.Omega.{arith}
 use lib.IntN.{ℤ}
-use lib.ListN.{length, getD}
+use lib.Dec.{ltb}
+use lib.ListN.{length, length-set, getD, set}
 use Rattle.semantics.specs.Refusal.{badMarking}
 use Rattle.semantics.specs.Word.{kind, payload, bits}
 use Rattle.semantics.specs.Reading.{Reading, read, refused, then, word, valuesIn}
@@ -19,11 +21,11 @@ use Rattle.semantics.proofs.Tests.{either}
 use Rattle.expression.specs.declared.read.Skipped.the-variants.{Refused}
 use Rattle.expression.specs.Skip.{forget}
 use Rattle.net.specs.Skim.{changed}
-use Rattle.net.specs.Places.{widthAt, placesAt}
+use Rattle.net.specs.Places.{widthAt, placesAt, PlacesFit}
 use Rattle.net.proofs.Placed.{places-length, width-at}
 use Rattle.marking.specs.declared.entry.EntryRead.the-variants.{Entry as EntryAt, Refused as EntryRefused}
-use Rattle.marking.specs.Marked.{tokenIn, entryPlace, Begun, risesAfter, IsMarking, Accepted, Indexed, Passes}
-use Rattle.marking.proofs.Rising.{entry-stands, SoFar, so-far-start, marking-ends, marking-refused, marking-unordered, marking-goes}
+use Rattle.marking.specs.Marked.{tokenIn, entryPlace, Begun, risesAfter, IsMarking, Accepted, Indexed, Passed, Passes}
+use Rattle.marking.proofs.Rising.{begun-none, begun-turn, entry-stands, SoFar, so-far-start, in-order, no-lesser, marking-ends, marking-refused, marking-unordered, marking-goes}
 
 -- the place of an entry, told from its TOKEN word
 entry-place : (ps : List Place) (ws : List ℕ) (at : ℕ) (e : Entry) (next : ℕ) → readEntry ps ws at ≡ read e next → e .place ≡ getD ws at 0 / 16384 % 256
@@ -43,7 +45,7 @@ pub record Known (ps : List Place) (ws begins : List ℕ) (place at : ℕ) : Typ
   pub last : ℕ
   pub so-far : SoFar ps ws begins last place at
 
-pub known-start : (ps : List Place) (ws begins : List ℕ) → length begins ≡ 65 → getD begins 0 0 ≡ 0 → Known ps ws begins 0 0
+known-start : (ps : List Place) (ws begins : List ℕ) → length begins ≡ 65 → getD begins 0 0 ≡ 0 → Known ps ws begins 0 0
 known-start ps ws begins l z = record { last = 0; so-far = so-far-start ps ws begins l z }
 
 -- a marking that is accepted is not refused
@@ -51,7 +53,7 @@ never-refused : {ps : List Place} {ws : List ℕ} {q : ℕ} {begins : List ℕ} 
 never-refused {q = q} A m = refused-read badMarking q _ (A .end) (m .same ∙ ap forget (A .marked))
 
 module _ {ps : List Place} {ws : List ℕ} (A : Accepted ps ws) {begins : List ℕ} {place at : ℕ} (K : Known ps ws begins place at) where
-  pub known-end : {begins′ : List ℕ} → length ws ≤ at → length begins′ ≡ length begins → Begun begins (place + 1) 65 at begins′ → Indexed ps ws begins′
+  known-end : {begins′ : List ℕ} → length ws ≤ at → length begins′ ≡ length begins → Begun begins (place + 1) 65 at begins′ → Indexed ps ws begins′
   known-end h l b = record { long = l ∙ K .so-far .long; of = λ es next e. record { at = marking-ends (K .so-far) h b .begins es next e } }
 
   -- the entry ahead, which stands after the one before it
@@ -85,7 +87,7 @@ module _ (nws ats : List ℕ) {ws : List ℕ} (A : Accepted (placesAt nws ats) w
   here : a .entry .place ≡ token
   here = entry-place (placesAt nws ats) ws at (a .entry) (a .next) (a .reads)
 
-  pub token-placed : token < length ats
+  token-placed : token < length ats
   token-placed = let p = entry-stands (placesAt nws ats) ws at (a .entry) (a .next) h (a .reads) .placed in omega (arith, here, places-length nws ats)
 
   ends : a .next ≡ end
@@ -94,10 +96,11 @@ module _ (nws ats : List ℕ) {ws : List ℕ} (A : Accepted (placesAt nws ats) w
       let w = ap (λ (q : ℕ). length (rangesAt (placesAt nws ats) q)) here ∙ width-at nws ats token token-placed in
       omega arith
 
-  pub token-inside : end ≤ length ws
-  token-inside = let i = entry-stands (placesAt nws ats) ws at (a .entry) (a .next) h (a .reads) .inside in omega (arith, ends)
+  -- entries rise: its place is no lesser than that of the last one
+  token-rises : place ≤ token
+  token-rises = let l = no-lesser (K .so-far) h (a .entry) (a .next) (a .reads) (sym (in-order (K .so-far) h (a .entry) (a .next) (a .reads)) ∙ a .rises) in omega (arith, here)
 
-  pub known-goes : {begins′ : List ℕ} → length begins′ ≡ length begins → length ats ≤ 64 → Begun begins (place + 1) (token + 1) at begins′ → Known (placesAt nws ats) ws begins′ token end
+  known-goes : {begins′ : List ℕ} → length begins′ ≡ length begins → length ats ≤ 64 → Begun begins (place + 1) (token + 1) at begins′ → Known (placesAt nws ats) ws begins′ token end
   known-goes {begins′} l few b = record {
     last = at;
     so-far = subst (SoFar (placesAt nws ats) ws begins′ at token) ends (marking-goes (K .so-far) h {r = EntryAt token (a .next)} (sym (ap (changed entryPlace) (a .reads) ∙ ap (λ (q : ℕ). read q (a .next)) here)) refl {u = true} (sym (rw here at (a .rises))) refl l (let p = token-placed in omega arith) b);
@@ -105,11 +108,11 @@ module _ (nws ats : List ℕ) {ws : List ℕ} (A : Accepted (placesAt nws ats) w
 
 -- ── Entries of one place, passed by their size ──
 
-pub passes-start : (ws : List ℕ) (from place size : ℕ) → Passes ws from place size from
-passes-start ws from place size = record { entries = 0; there = omega (arith, zero-mul size); same = λ j h. absurd (omega arith) }
+pub passed-start : (ws : List ℕ) (from place size : ℕ) → Passed ws from place size from
+passed-start ws from place size = record { entries = 0; there = omega (arith, zero-mul size); same = λ j h. absurd (omega arith) }
 
-pub passes-turn : {ws : List ℕ} {from place size at : ℕ} → Passes ws from place size at → at < length ws → getD ws at 0 / 16384 % 256 ≡ place → Passes ws from place size (at + size)
-passes-turn {ws} {from} {place} {size} {at} P h e =
+pub passed-turn : {ws : List ℕ} {from place size at : ℕ} → Passed ws from place size at → at < length ws → getD ws at 0 / 16384 % 256 ≡ place → Passed ws from place size (at + size)
+passed-turn {ws} {from} {place} {size} {at} P h e =
     record {
       entries = suc (P .entries);
       there = let m = suc-mul (P .entries) size in let t = P .there in omega arith;
@@ -120,18 +123,123 @@ passes-turn {ws} {from} {place} {size} {at} P h e =
     by j (inl q) = let s : at ≡ from + j * size = P .there ∙ ap (λ (k : ℕ). from + k * size) (sym q) in (omega (arith, s), ap (λ (k : ℕ). getD ws k 0 / 16384 % 256) (sym s) ∙ e)
     by j (inr l) = P .same j l
 
--- a marking is known behind them
-known-passes : (nws ats : List ℕ) {ws : List ℕ} → Accepted (placesAt nws ats) ws → length ats ≤ 64 → {begins : List ℕ} {place from size : ℕ} (k : ℕ) → size ≡ 1 + widthAt nws (getD ats place 0) → ((j : ℕ) → j < k → (from + j * size < length ws) × (getD ws (from + j * size) 0 / 16384 % 256 ≡ place)) → Known (placesAt nws ats) ws begins place from → Known (placesAt nws ats) ws begins place (from + k * size)
-known-passes nws ats A few {begins} {place} {from} {size} zero s each K = subst (Known (placesAt nws ats) _ begins place) (omega (arith, zero-mul size)) K
-known-passes nws ats {ws} A few {begins} {place} {from} {size} (suc k) s each K =
-    let before = known-passes nws ats A few k s (λ j l. each j (omega arith)) K in
-    let t = each k (omega arith) in
-    let e : from + k * size + (1 + widthAt nws (getD ats (getD ws (from + k * size) 0 / 16384 % 256) 0)) ≡ from + suc k * size = ap (λ (q : ℕ). from + k * size + (1 + widthAt nws (getD ats q 0))) (t .1) ∙ (let m = suc-mul k size in omega arith) in
-    subst (Known (placesAt nws ats) ws begins place) e
-    (subst (λ (q : ℕ). Known (placesAt nws ats) ws begins q (from + k * size + (1 + widthAt nws (getD ats (getD ws (from + k * size) 0 / 16384 % 256) 0)))) (t .1)
-    (known-goes nws ats A before (t .0) {begins′ = begins} refl few (record { new = λ p l u. absurd (let q = t .1 in omega arith); old = λ p l. refl })))
+-- ── Place by place ──
 
-pub known-passed : (nws ats : List ℕ) {ws : List ℕ} → Accepted (placesAt nws ats) ws → length ats ≤ 64 → {begins : List ℕ} {place : ℕ} (at v : ℕ) {r : ℕ} → v ≡ widthAt nws (getD ats place 0) → Known (placesAt nws ats) ws begins place (at + (1 + widthAt nws (getD ats place 0))) → Passes ws (at + (1 + v)) place (1 + v) r → Known (placesAt nws ats) ws begins place r
-known-passed nws ats {ws} A few {begins} {place} at v e K P =
-    let K′ = subst (λ (q : ℕ). Known (placesAt nws ats) ws begins place (at + (1 + q))) (sym e) K in
-    subst (Known (placesAt nws ats) ws begins place) (sym (P .there)) (known-passes nws ats A few (P .entries) (ap (λ (q : ℕ). 1 + q) e) (P .same) K′)
+-- the entries of lesser places than p were read, up to a position; from the place after that of the last one, the places below n begin there
+pub record Reached (ps : List Place) (ws begins : List ℕ) (p n at : ℕ) : Type 0 where
+  pub table : List ℕ
+  pub place : ℕ
+  pub known : Known ps ws table place at
+  pub below : place < n
+  pub long : length begins ≡ length table
+  pub begun : Begun table (place + 1) n at begins
+  pub ahead : at < length ws → p ≤ getD ws at 0 / 16384 % 256
+
+-- the turn of p: so it is once p is said to begin at this position, with any of the places after it
+pub record Ready (ps : List Place) (ws begins : List ℕ) (p at : ℕ) : Type 0 where
+  pub long : length begins ≡ 65
+  pub reached : (begins′ : List ℕ) (n : ℕ) → p < n → length begins′ ≡ length begins → Begun begins p n at begins′ → Reached ps ws begins′ p n at
+
+pub ready-start : (ps : List Place) (ws begins : List ℕ) → length begins ≡ 65 → Ready ps ws begins 0 0
+ready-start ps ws begins l = record {
+  long = l;
+  reached = λ begins′ n h k b. record {
+    table = begins′;
+    place = 0;
+    known = known-start ps ws begins′ (k ∙ l) (b .new 0 (omega arith) h);
+    below = h;
+    long = refl;
+    begun = record { new = λ q i j. b .new q (omega arith) j; old = λ q i. refl };
+    ahead = λ i. omega arith;
+  };
+}
+
+ready-next : {ps : List Place} {ws begins : List ℕ} {p at : ℕ} → length begins ≡ 65 → Reached ps ws begins p p at → Ready ps ws begins p at
+ready-next {ps} {ws} {begins} {p} {at} l R = record {
+  long = l;
+  reached = λ begins′ n h k b. record {
+    table = R .table;
+    place = R .place;
+    known = R .known;
+    below = let i = R .below in omega arith;
+    long = k ∙ R .long;
+    begun = record { new = λ q i j. new begins′ n b q i j (either (ltb q p)); old = λ q i. b .old q (let j = R .below in omega arith) ∙ R .begun .old q i };
+    ahead = R .ahead;
+  };
+}
+  where
+    new : (begins′ : List ℕ) (n : ℕ) → Begun begins p n at begins′ → (q : ℕ) → R .place + 1 ≤ q → q < n → (ltb q p ≡ true) ⊎ (ltb q p ≡ false) → getD begins′ q 0 ≡ at
+    new begins′ n b q i j (inl t) =
+        let h = ltb-true q p t in
+        b .old q h ∙ R .begun .new q i h
+    new begins′ n b q i j (inr t) = b .new q (ltb-false q p t) j
+
+module _ {nws ats ws : List ℕ} (F : PlacesFit nws ats) (A : Accepted (placesAt nws ats) ws) where
+  module _ {begins : List ℕ} {p size : ℕ} (s : size ≡ 1 + widthAt nws (getD ats p 0)) where
+    -- an entry of p
+    known-entry : {begins₁ : List ℕ} {place at : ℕ} → Known (placesAt nws ats) ws begins₁ place at → at < length ws → getD ws at 0 / 16384 % 256 ≡ p → length begins ≡ length begins₁ → Begun begins₁ (place + 1) (p + 1) at begins → Known (placesAt nws ats) ws begins p (at + size)
+    known-entry {begins₁} {place} {at} K h e l b =
+        let g = known-goes nws ats A K h {begins′ = begins} l (F .few) (subst (λ (q : ℕ). Begun begins₁ (place + 1) (q + 1) at begins) (sym e) b) in
+        let k = subst (λ (q : ℕ). Known (placesAt nws ats) ws begins q (at + (1 + widthAt nws (getD ats q 0)))) e g in
+        subst (λ (q : ℕ). Known (placesAt nws ats) ws begins p (at + q)) (sym s) k
+
+    -- one or more
+    known-entries : {from : ℕ} → Reached (placesAt nws ats) ws begins p (p + 1) from → (k : ℕ) → ((j : ℕ) → j < suc k → (from + j * size < length ws) × (getD ws (from + j * size) 0 / 16384 % 256 ≡ p)) → Known (placesAt nws ats) ws begins p (from + suc k * size)
+    known-entries {from} R zero each =
+        let z : from + 0 * size ≡ from = omega (arith, zero-mul size) in
+        let t = each 0 (omega arith) in
+        subst (Known (placesAt nws ats) ws begins p) (let m = suc-mul 0 size in omega arith)
+        (known-entry (R .known) (let i = t .0 in omega arith) (ap (λ (k : ℕ). getD ws k 0 / 16384 % 256) (sym z) ∙ t .1) (R .long) (R .begun))
+    known-entries {from} R (suc k) each =
+        let t = each (suc k) (omega arith) in
+        subst (Known (placesAt nws ats) ws begins p) (let m = suc-mul (suc k) size in omega arith)
+        (known-entry (known-entries R k (λ j l. each j (omega arith))) (t .0) (t .1) refl (begun-none begins (p + 1) _))
+
+    reached-turn : {from r : ℕ} → Reached (placesAt nws ats) ws begins p (p + 1) from → Passes ws from p size r → Reached (placesAt nws ats) ws begins (p + 1) (p + 1) r
+    reached-turn {from} {r} R P = by (P .passed .entries) (P .passed .there) (P .passed .same)
+      where
+        by : (k : ℕ) → r ≡ from + k * size → ((j : ℕ) → j < k → (from + j * size < length ws) × (getD ws (from + j * size) 0 / 16384 % 256 ≡ p)) → Reached (placesAt nws ats) ws begins (p + 1) (p + 1) r
+        by zero e each =
+            let z : from ≡ r = omega (arith, zero-mul size) in
+            record {
+              table = R .table;
+              place = R .place;
+              known = subst (Known (placesAt nws ats) ws (R .table) (R .place)) z (R .known);
+              below = R .below;
+              long = R .long;
+              begun = subst (λ (q : ℕ). Begun (R .table) (R .place + 1) (p + 1) q begins) z (R .begun);
+              ahead = λ h. let a = subst (λ (q : ℕ). q < length ws → p ≤ getD ws q 0 / 16384 % 256) z (R .ahead) h in let d = P .stops h in omega arith;
+            }
+        by (suc k) e each =
+            let K = subst (Known (placesAt nws ats) ws begins p) (sym e) (known-entries R k each) in
+            record {
+              table = begins;
+              place = p;
+              known = K;
+              below = omega arith;
+              long = refl;
+              begun = begun-none begins (p + 1) r;
+              ahead = λ h. let a = token-rises nws ats A K h in let d = P .stops h in omega arith;
+            }
+
+  pub ready-turn : {begins : List ℕ} {p at v r : ℕ} → Ready (placesAt nws ats) ws begins p at → p < length ats → v ≡ widthAt nws (getD ats p 0) → Passes ws at p (1 + v) r → Ready (placesAt nws ats) ws (set begins p at) (p + 1) r
+  ready-turn {begins} {p} {at} R h e P =
+      let i : p < length begins = omega (arith, F .few, R .long) in
+      let l = length-set begins p at in
+      ready-next (l ∙ R .long)
+      (reached-turn (ap (λ (q : ℕ). 1 + q) e) (R .reached (set begins p at) (p + 1) (omega arith) l (begun-turn (begun-none begins p at) i (omega arith))) P)
+
+  -- behind all places nothing can follow
+  pub ready-end : {begins begins′ : List ℕ} {p at : ℕ} → Ready (placesAt nws ats) ws begins p at → p ≤ length ats → length ats ≤ p → length begins′ ≡ length begins → Begun begins p 65 at begins′ → Indexed (placesAt nws ats) ws begins′
+  ready-end {begins} {begins′} {p} {at} R h k l b = known-end A (T .known) (by (either (ltb at (length ws)))) (T .long) (T .begun)
+    where
+      T : Reached (placesAt nws ats) ws begins′ p 65 at
+      T = R .reached begins′ 65 (omega (arith, F .few)) l b
+
+      by : (ltb at (length ws) ≡ true) ⊎ (ltb at (length ws) ≡ false) → length ws ≤ at
+      by (inl t) =
+          let i = ltb-true at (length ws) t in
+          let a = T .ahead i in
+          let d = token-placed nws ats A (T .known) i in
+          absurd (omega arith)
+      by (inr t) = ltb-false at (length ws) t

@@ -35,6 +35,9 @@ use Rattle.marking.proofs.Entries.{Values, values-stand, token-parts}
 
 -- ── Where places begin ──
 
+pub begun-none : (l : List ℕ) (p a : ℕ) → Begun l p p a l
+begun-none l p a = record { new = λ q i j. absurd (omega arith); old = λ q i. refl }
+
 pub begun-turn : {l r : List ℕ} {from p a : ℕ} → Begun l from p a r → p < length r → from ≤ p → Begun l from (p + 1) a (set r p a)
 begun-turn {l} {r} {from} {p} {a} b h k = record {
   new = λ q i j. new q i j (either (eqb q p));
@@ -244,7 +247,7 @@ module _ {ps : List Place} {ws begins : List ℕ} {last place at : ℕ} (a : SoF
       components = let i = stands .after in omega arith
 
       -- the test of the code is that of the definition
-      in-order : risesAfter ws last place at (e .place) (next - at - 1) ≡ before (a .after) (key (e .place) (e .colour))
+      pub in-order : risesAfter ws last place at (e .place) (next - at - 1) ≡ before (a .after) (key (e .place) (e .colour))
       in-order = rw components (by (either (eqb at 0)))
         where
           w : ℕ
@@ -261,7 +264,7 @@ module _ {ps : List Place} {ws begins : List ℕ} {last place at : ℕ} (a : SoF
           by (inr t) = rw (t, a .later (eqb-false at 0 t), stands .colour) (same-width (either (eqb place (e .place))))
 
       module _ (o : before (a .after) (key (e .place) (e .colour)) ≡ true) where
-        no-lesser : place ≤ e .place
+        pub no-lesser : place ≤ e .place
         no-lesser = by (either (eqb at 0))
           where
             by : (eqb at 0 ≡ true) ⊎ (eqb at 0 ≡ false) → place ≤ e .place

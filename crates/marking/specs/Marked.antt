@@ -92,7 +92,12 @@ pub record Indexed (places : List Place) (ws begins : List ℕ) : Type 0 where
   pub of : (es : List Entry) (next : ℕ) → markingRead places ws ≡ read es next → Begins es begins
 
 -- a position after some entries of one place, each of so many words, that stand one behind the other
-pub record Passes (ws : List ℕ) (from place size r : ℕ) : Type 0 where
+pub record Passed (ws : List ℕ) (from place size r : ℕ) : Type 0 where
   pub entries : ℕ
   pub there : r ≡ from + entries * size
   pub same : (j : ℕ) → j < entries → (from + j * size < length ws) × (getD ws (from + j * size) 0 / 16384 % 256 ≡ place)
+
+-- after all of them: none of this place follows
+pub record Passes (ws : List ℕ) (from place size r : ℕ) : Type 0 where
+  pub passed : Passed ws from place size r
+  pub stops : r < length ws → getD ws r 0 / 16384 % 256 ≡ place → ⊥

@@ -3,7 +3,7 @@ use mathlib.Core.Path.{_≡_, refl, _∙_}
 use Prim.Native.Nat.{_-_, _≤_}
 use lib.ListN.{length, length-set}
 use Rattle.marking.specs.Marked.{Begun}
-use Rattle.marking.proofs.Rising.{begun-turn, begun-end}
+use Rattle.marking.proofs.Rising.{begun-none, begun-turn, begun-end}
 use native.Mathlib.Omega.{arith}
 use borrow.Author.Needs.{needs}
 use Rattle.marking.proofs.index.begin_all.Statement.{statement}
@@ -16,7 +16,7 @@ abbrev μ-loop : tie.MeasureT-loop
 μ-loop begins₀ from to at p₀ begins p = to - p
 
 loop-holds : tie.Need-loop-holds Inv-loop μ-loop
-loop-holds c = (record { new = λ p h k. absurd (omega arith); old = λ p h. refl }, refl, omega arith)
+loop-holds c = (begun-none _ _ _, refl, omega arith)
 
 loop-again : tie.Need-loop-again Inv-loop μ-loop
 loop-again c =
