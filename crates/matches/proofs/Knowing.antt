@@ -10,15 +10,16 @@ use native.Mathlib.Omega.{arith}
 use borrow.Author.Tests.{ltb-true, eqb-true, eqb-false}
 use lib.Dec.{eqb, ltb}
 use lib.IntN.{ℤ, pos}
-use lib.ListN.{length, getD, getElem?, set, take, replicate}
+use lib.ListN.{length, getD, set, take, replicate}
 use lib.Seq.{getD-take, getD-set-same, getD-set-other}
-use Rattle.semantics.specs.Word.{kind, payload, signed, Range, within, valueWord}
-use Rattle.semantics.specs.Expression.{given}
+use Rattle.semantics.specs.Word.{kind, payload, signed, Range, valueWord}
+use Rattle.semantics.specs.Expression.{variable, given}
 use Rattle.semantics.specs.Order.{sameInteger}
-use Rattle.semantics.specs.Tries.{Partial, partly, bindNew, agree}
+use Rattle.semantics.specs.Tries.{Partial, partly, agree, matched}
 use Rattle.semantics.proofs.Tests.{either, integer-same, and-right}
 use Rattle.semantics.proofs.Members.{none-some, replicate-same}
 use Rattle.semantics.proofs.Words.{value-again}
+use Rattle.semantics.proofs.Extending.{Extends, matched-extends}
 use Rattle.numbers.specs.declared.number.Number.{Number}
 use Rattle.numbers.specs.declared.number.Number.the-variants.{Some}
 use Rattle.numbers.specs.Number.{number}
@@ -51,41 +52,22 @@ other-value a b h = by (either (sameInteger (signed (b % 16384)) (signed (a % 16
 
 -- ── A component leaves the values that are there ──
 
-abbrev Stays : Partial → Partial → Type 0
-Stays p q = (n : ℕ) (y : ℤ) → partly p n ≡ some y → partly q n ≡ some y
+same-extends : (u : Bool) (p q : Partial) → given u p ≡ some q → Extends (partly p) (partly q)
+same-extends true p q h = let e : p ≡ q = cc in λ n y f. rw (← e) f
+same-extends false p q h = none-some h
 
-same-stays : (u : Bool) (p q : Partial) → cond u (some p) none ≡ some q → Stays p q
-same-stays true p q h = let e : p ≡ q = cc in λ n y f. rw (← e) f
-same-stays false p q h = none-some h
-
-given-stays : (u : Bool) (p q : Partial) → given u p ≡ some q → Stays p q
-given-stays true p q h = same-stays true p q h
-given-stays false p q h = none-some h
-
-bind-stays : (p : Partial) (n : ℕ) (z : ℤ) (q : Partial) → partly p n ≡ none → (u : Bool) → cond u (some (set p n (some z))) none ≡ some q → Stays p q
-bind-stays p n z q e true h =
-    let f : set p n (some z) ≡ q = cc in
-    λ m y g. ap (λ (r : Partial). partly r m) (sym f) ∙ getD-set-other p n m (some z) none (λ k. none-some (sym e ∙ ap (partly p) (sym k) ∙ g)) ∙ g
-bind-stays p n z q e false h = none-some h
-
-new-stays : (p : Partial) (n : ℕ) (o : Option Range) (z : ℤ) (q : Partial) → partly p n ≡ none → bindNew p n o z ≡ some q → Stays p q
-new-stays p n none z q e h = none-some h
-new-stays p n (some r) z q e h = bind-stays p n z q e (within r z) h
-
-agree-stays : (ranges : List Range) (p : Partial) (n : ℕ) (z : ℤ) (q : Partial) (o : Option ℤ) → partly p n ≡ o → agree ranges p n o z ≡ some q → Stays p q
-agree-stays ranges p n z q (some old) e h = same-stays (sameInteger old z) p q h
-agree-stays ranges p n z q none e h = new-stays p n (getElem? ranges n) z q e h
-
-part-stays : (ranges : List Range) (w : ℕ) (z : ℤ) (p q : Partial) → partTry ranges w z p ≡ some q → Stays p q
-part-stays ranges w z p q = by (eqb (kind w) 7) (eqb (kind w) 8)
+-- a component that is a variable alone is a match of one component
+part-extends : (ranges : List Range) (w : ℕ) (z : ℤ) (p q : Partial) → partTry ranges w z p ≡ some q → Extends (partly p) (partly q)
+unfolding matched bind
+part-extends ranges w z p q = by (eqb (kind w) 7) (eqb (kind w) 8)
   where
-    by : (s t : Bool) → cond s (given (sameInteger (signed (w % 16384)) z) p) (cond t (agree ranges p (payload w) (partly p (payload w)) z) (some p)) ≡ some q → Stays p q
-    by true t h = given-stays (sameInteger (signed (w % 16384)) z) p q h
-    by false true h = agree-stays ranges p (payload w) z q (partly p (payload w)) refl h
-    by false false h = same-stays true p q h
+    by : (s t : Bool) → cond s (given (sameInteger (signed (w % 16384)) z) p) (cond t (agree ranges p (payload w) (partly p (payload w)) z) (some p)) ≡ some q → Extends (partly p) (partly q)
+    by true t h = same-extends (sameInteger (signed (w % 16384)) z) p q h
+    by false true h = matched-extends ranges (variable (payload w) ∷ []) (z ∷ []) p q (rw h)
+    by false false h = same-extends true p q h
 
-wanted-stays : (p q : Partial) → Stays p q → (w : ℕ) (y : ℤ) → wanted p w ≡ some y → wanted q w ≡ some y
-wanted-stays p q f w y = by (eqb (kind w) 7) (eqb (kind w) 8)
+wanted-extends : (p q : Partial) → Extends (partly p) (partly q) → (w : ℕ) (y : ℤ) → wanted p w ≡ some y → wanted q w ≡ some y
+wanted-extends p q f w y = by (eqb (kind w) 7) (eqb (kind w) 8)
   where
     by : (s t : Bool) → cond s (some (signed (w % 16384))) (cond t (partly p (payload w)) none) ≡ some y → cond s (some (signed (w % 16384))) (cond t (partly q (payload w)) none) ≡ some y
     by true t h = h
@@ -111,7 +93,7 @@ wanted-fails ranges (w ∷ ws) (z ∷ zs) p (suc i) y e d = by (partTry ranges w
   where
     by : (o : Option Partial) → partTry ranges w z p ≡ o → ((q : Partial) → wanted q (getD ws i 0) ≡ some y → sameInteger y (getD zs i (pos 0)) ≡ false → matchedBy ranges ws zs q ≡ none) → bind o (matchedBy ranges ws zs) ≡ none
     by none f k = refl
-    by (some q) f k = k q (wanted-stays p q (part-stays ranges w z p q f) (getD ws i 0) y e) d
+    by (some q) f k = k q (wanted-extends p q (part-extends ranges w z p q f) (getD ws i 0) y e) d
 
 pub differs-fails : {v : ℕ} {b parts known ms : List ℕ} {at width : ℕ} (ranges : List Range) → Knows v b parts known → Differs ms at width known → none ≡ matchedBy ranges (take width parts) (valuesAt ms width at) (partialOf v b)
 differs-fails {v} {b} {parts} {known} {ms} {at} {width} ranges k d =
