@@ -1,4 +1,4 @@
-// The search over a whole plan, from slots without values and a menu without rows.
+// The search over a whole plan, from a menu without rows.
 use crate::walk::walk;
 use leaves::leaf::only_leaf;
 use leaves::progress::Progress;
