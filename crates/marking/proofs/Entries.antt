@@ -2,19 +2,19 @@
 -- values are those of the words after its TOKEN.
 use mathlib.Core.Path.{_≡_, refl, sym, ap, _∙_}
 use Prim.Native.Nat.{ℕ, suc, _+_, _≤_, _<_, _/_, _%_, _^_}
-use mathlib.Core.Bool.{Bool, true, false, not, _&&_}
+use mathlib.Core.Bool.{Bool, true, false, not}
 use mathlib.Core.List.{List, [], _∷_}
 use borrow.Author.Needs.{needs}
 use borrow.Author.Tests.{lt-ltb, ltb-true, not-true, not-false}
 use native.Mathlib.Omega.{arith}
-use lib.Dec.{leb, ltb}
+use lib.Dec.{leb}
 use lib.IntN.{ℤ}
 use lib.ListN.{length, getD}
 use Rattle.semantics.specs.Refusal.{badWord}
 use Rattle.semantics.specs.Word.{kind, payload, bits, only, signed, Range, within}
 use Rattle.semantics.specs.Reading.{Reading, read, refused, then, demand, word, valuesIn}
 use Rattle.semantics.specs.Marking.{readEntry}
-use Rattle.semantics.proofs.Tests.{and-left, and-right}
+use Rattle.semantics.proofs.Tests.{and-left}
 use Rattle.semantics.proofs.Spans.{Span, then-read, read-same, word-read, valueIn, drop-first}
 use Rattle.expression.specs.declared.read.Skipped.{Skipped}
 use Rattle.expression.specs.declared.read.Skipped.the-variants.{Next, Refused}
@@ -27,7 +27,8 @@ use Rattle.net.specs.Places.{rangesFrom, widthAt, placesAt}
 use Rattle.net.proofs.Placed.{places-length, ranges-at, place-inside, place-room}
 use Rattle.net.proofs.Structures.{stricter, word-refused, word-taken, next-fits}
 use Rattle.colours.specs.Values.{valuesAt}
-use Rattle.marking.specs.Marked.{tokenIn, entryPlace}
+use Rattle.semantics.proofs.ReadEntries.{tokenIn, token-parts}
+use Rattle.marking.specs.Marked.{entryPlace}
 
 -- the last of the three tests of a TOKEN word
 pub token-last : {places p : ℕ} → p < 4194304 → p / 16384 % 256 < places → leb 1 (p % 16384) ≡ tokenIn places p
@@ -36,11 +37,8 @@ token-last {places} {p} h k =
     rw (lt-ltb p (2 ^ 22) h, lt-ltb (p / 16384 % 256) places k, s)
 
 -- a TOKEN word that passes names a place
-pub token-parts : (places w : ℕ) → tokenIn places w ≡ true → bits 14 21 w < places
-token-parts places w e = ltb-true (bits 14 21 w) places (and-right (only 22 w) (ltb (bits 14 21 w) places) (and-left (only 22 w && ltb (bits 14 21 w) places) (leb 1 (bits 0 13 w)) e))
-
 pub token-in : {places : ℕ} (w : ℕ) {u : Bool} → u ≡ tokenIn places w → not u ≡ false → w / 16384 % 256 < places
-token-in {places} w s d = token-parts places w (sym s ∙ not-false _ d)
+token-in {places} w s d = token-parts places w (sym s ∙ not-false _ d) .1
 
 -- ── Values in words ──
 

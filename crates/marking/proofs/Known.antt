@@ -24,7 +24,8 @@ use Rattle.net.specs.Skim.{changed}
 use Rattle.net.specs.Places.{widthAt, placesAt, PlacesFit}
 use Rattle.net.proofs.Placed.{places-length, width-at}
 use Rattle.marking.specs.declared.entry.EntryRead.the-variants.{Entry as EntryAt, Refused as EntryRefused}
-use Rattle.marking.specs.Marked.{tokenIn, entryPlace, Begun, risesAfter, IsMarking, Accepted, Indexed, Passed, Passes}
+use Rattle.semantics.proofs.ReadEntries.{tokenIn}
+use Rattle.marking.specs.Marked.{entryPlace, Begun, risesAfter, IsMarking, Accepted, Indexed, Passed, Passes}
 use Rattle.marking.proofs.Rising.{begun-none, begun-turn, entry-stands, SoFar, so-far-start, in-order, no-lesser, marking-ends, marking-refused, marking-unordered, marking-goes}
 
 -- the place of an entry, told from its TOKEN word

@@ -29,9 +29,10 @@ use Rattle.net.proofs.Loops.{changed-same}
 use Rattle.marking.specs.declared.entry.EntryRead.{EntryRead}
 use Rattle.marking.specs.declared.entry.EntryRead.the-variants.{Entry as EntryAt, Refused as EntryRefused}
 use Rattle.colours.specs.Values.{valuesAt}
-use Rattle.marking.specs.Marked.{tokenIn, entryPlace, entryRead, markingRead, positionOf, beginOf, Begun, risesAfter, IsMarking}
+use Rattle.semantics.proofs.ReadEntries.{tokenIn, token-parts}
+use Rattle.marking.specs.Marked.{entryPlace, entryRead, markingRead, positionOf, beginOf, Begun, risesAfter, IsMarking}
 use Rattle.colours.proofs.Comparing.{values-length}
-use Rattle.marking.proofs.Entries.{Values, values-stand, token-parts}
+use Rattle.marking.proofs.Entries.{Values, values-stand}
 
 -- ── Where places begin ──
 
@@ -142,7 +143,7 @@ entry-stands ps ws at e next h r =
         let a = sp .after in
         let m : mid ≡ at + 1 = omega arith in
         let i = g .inside (sp .inside (omega arith)) in
-        let d = token-parts (length ps) w o in
+        let d = token-parts (length ps) w o .1 in
         let t = drop-first ws at v _ (sp .split) in
         let z : bits 0 13 w ≡ getD ws at 0 % 16384 = omega (arith, t .1, f) in
         subst (λ (e : Entry). EntryStands ps ws at e next) (s .0) (subst (λ (next : ℕ). EntryStands ps ws at (record { place = bits 14 21 w; count = bits 0 13 w; colour = c }) next) (s .1) (record {

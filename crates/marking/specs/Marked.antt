@@ -2,13 +2,13 @@
 -- Rests on semantics/specs/Marking and colours/specs/Values.
 use mathlib.Core.Path.{_≡_}
 use Prim.Native.Nat.{ℕ, _+_, _*_, _/_, _%_, _≤_, _<_}
-use mathlib.Core.Bool.{Bool, true, cond, _&&_}
+use mathlib.Core.Bool.{Bool, true, cond}
 use mathlib.Core.List.{List, [], _∷_}
-use lib.Dec.{leb, ltb, eqb}
+use lib.Dec.{eqb}
 use lib.IntN.{ℤ, pos}
 use lib.ListN.{length, getD, take}
 use Rattle.semantics.specs.Refusal.{badMarking, badBinding}
-use Rattle.semantics.specs.Word.{bits, only, Range}
+use Rattle.semantics.specs.Word.{Range}
 use Rattle.semantics.specs.Reading.{Reading, read, refused, then, valuesIn, ended, numbered}
 use Rattle.semantics.specs.Net.{Place}
 use Rattle.semantics.specs.Order.{before}
@@ -21,10 +21,6 @@ use Rattle.marking.specs.declared.entry.EntryRead.{EntryRead}
 use Rattle.marking.specs.declared.entry.EntryRead.the-variants.{Entry as EntryAt, Refused as EntryRefused}
 
 -- ── One entry ──
-
--- the 28 bits of a TOKEN word on a net of so many places
-abbrev pub tokenIn : ℕ → ℕ → Bool
-tokenIn places w = only 22 w && ltb (bits 14 21 w) places && leb 1 (bits 0 13 w)
 
 abbrev pub entryPlace : Entry → ℕ
 entryPlace e = e .place

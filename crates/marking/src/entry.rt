@@ -8,7 +8,7 @@ ghost use mathlib.Core.Path.{_≡_};
 ghost use Rattle.semantics.specs.Marking.{Entry, readEntry};
 ghost use Rattle.net.specs.Skim.{changed};
 ghost use Rattle.net.specs.Places.{placesAt, PlacesFit};
-ghost use Rattle.marking.specs.Marked.{tokenIn};
+ghost use Rattle.semantics.proofs.ReadEntries.{tokenIn};
 ghost use Rattle.marking.specs.Marked.{entryRead, entryPlace};
 
 // The place of an entry and the position after it, or a refusal's number and position.

@@ -25,37 +25,35 @@ use Rattle.semantics.proofs.Spans.{read-same, demand-read, numbered-rea
 
 -- ── One entry ──
 
--- a TOKEN's bits on a net
-tokenIn : List Place → ℕ → Bool
-tokenIn places w = only 22 w && ltb (bits 14 21 w) (length places) && leb 1 (bits 0 13 w)
+-- the 28 bits of a TOKEN word on a net of so many places
+abbrev pub tokenIn : ℕ → ℕ → Bool
+tokenIn places w = only 22 w && ltb (bits 14 21 w) places && leb 1 (bits 0 13 w)
 
 -- the three parts of that test
-token-parts : (places : List Place) (w : ℕ) → tokenIn places w ≡ true → (w < 2 ^ 22) × (bits 14 21 w < length places) × (1 ≤ bits 0 13 w)
-unfolding tokenIn
+pub token-parts : (places w : ℕ) → tokenIn places w ≡ true → (w < 2 ^ 22) × (bits 14 21 w < places) × (1 ≤ bits 0 13 w)
 token-parts places w e =
-    let h = and-left (only 22 w && ltb (bits 14 21 w) (length places)) (leb 1 (bits 0 13 w)) e in
-    let x = ltb-true w (2 ^ 22) (and-left (only 22 w) (ltb (bits 14 21 w) (length places)) h) in
-    let y = ltb-true (bits 14 21 w) (length places) (and-right (only 22 w) (ltb (bits 14 21 w) (length places)) h) in
-    (x, y, leb-true 1 (bits 0 13 w) (and-right (only 22 w && ltb (bits 14 21 w) (length places)) (leb 1 (bits 0 13 w)) e))
+    let h = and-left (only 22 w && ltb (bits 14 21 w) places) (leb 1 (bits 0 13 w)) e in
+    let x = ltb-true w (2 ^ 22) (and-left (only 22 w) (ltb (bits 14 21 w) places) h) in
+    let y = ltb-true (bits 14 21 w) places (and-right (only 22 w) (ltb (bits 14 21 w) places) h) in
+    (x, y, leb-true 1 (bits 0 13 w) (and-right (only 22 w && ltb (bits 14 21 w) places) (leb 1 (bits 0 13 w)) e))
 
-parts-token : (places : List Place) (w : ℕ) → w < 2 ^ 22 → bits 14 21 w < length places → 1 ≤ bits 0 13 w → tokenIn places w ≡ true
-unfolding tokenIn
-parts-token places w x y z = rw (lt-ltb w (2 ^ 22) x, lt-ltb (bits 14 21 w) (length places) y, le-leb 1 (bits 0 13 w) z)
+parts-token : (places w : ℕ) → w < 2 ^ 22 → bits 14 21 w < places → 1 ≤ bits 0 13 w → tokenIn places w ≡ true
+parts-token places w x y z = rw (lt-ltb w (2 ^ 22) x, lt-ltb (bits 14 21 w) places y, le-leb 1 (bits 0 13 w) z)
 
-token-read : (places : List Place) (ws : List ℕ) (at w next : ℕ) → word ws 0xB (tokenIn places) at ≡ read w next → Span ws at (tokenWord (bits 14 21 w) (bits 0 13 w) ∷ []) next × (bits 14 21 w < length places) × (1 ≤ bits 0 13 w)
-token-read places ws at w next e = by (word-read ws 0xB (tokenIn places) at w next e)
+token-read : (places : List Place) (ws : List ℕ) (at w next : ℕ) → word ws 0xB (tokenIn (length places)) at ≡ read w next → Span ws at (tokenWord (bits 14 21 w) (bits 0 13 w) ∷ []) next × (bits 14 21 w < length places) × (1 ≤ bits 0 13 w)
+token-read places ws at w next e = by (word-read ws 0xB (tokenIn (length places)) at w next e)
   where
-    by : (v : ℕ) × Span ws at (v ∷ []) next × (kind v ≡ 0xB) × (payload v ≡ w) × (tokenIn places w ≡ true) → Span ws at (tokenWord (bits 14 21 w) (bits 0 13 w) ∷ []) next × (bits 14 21 w < length places) × (1 ≤ bits 0 13 w)
+    by : (v : ℕ) × Span ws at (v ∷ []) next × (kind v ≡ 0xB) × (payload v ≡ w) × (tokenIn (length places) w ≡ true) → Span ws at (tokenWord (bits 14 21 w) (bits 0 13 w) ∷ []) next × (bits 14 21 w < length places) × (1 ≤ bits 0 13 w)
     by s =
-        let h = token-parts places w (s .4) in
+        let h = token-parts (length places) w (s .4) in
         let x : payload (s .0) < 2 ^ 22 = rw (s .3) (h .0) in
         let same : tokenWord (bits 14 21 w) (bits 0 13 w) ≡ s .0 = rw (← s .3) (token-again (s .0) (s .2) x) in
         (rw same (s .1), h .1, h .2)
 
 pub entry-read : (places : List Place) (ws : List ℕ) (at : ℕ) (e : Entry) (next : ℕ) → readEntry places ws at ≡ read e next → Span ws at (wordsOfEntry e) next × Good places e
-unfolding readEntry tokenIn
+unfolding readEntry
 entry-read places ws at e next r =
-    then-read (word ws 0xB (tokenIn places) at) (λ w mid. then (valuesIn ws (rangesAt places (bits 14 21 w)) mid) (λ c last. read (record { place = bits 14 21 w; count = bits 0 13 w; colour = c }) last)) e next r λ w mid p q.
+    then-read (word ws 0xB (tokenIn (length places)) at) (λ w mid. then (valuesIn ws (rangesAt places (bits 14 21 w)) mid) (λ c last. read (record { place = bits 14 21 w; count = bits 0 13 w; colour = c }) last)) e next r λ w mid p q.
     then-read (valuesIn ws (rangesAt places (bits 14 21 w)) mid) (λ c last. read (record { place = bits 14 21 w; count = bits 0 13 w; colour = c }) last) e next q λ c last p′ q′.
     let f = token-read places ws at w mid p in
     let g = values-read ws (rangesAt places (bits 14 21 w)) mid c last p′ in
@@ -63,7 +61,7 @@ entry-read places ws at e next r =
     rw (← s .0, ← s .1) (span-append ws (tokenWord (bits 14 21 w) (bits 0 13 w) ∷ []) (map valueWord c) at mid last (f .0) (g .0), record { placed = f .1; some = f .2; limited = omega arith; ranged = g .1 })
 
 entry-reads : (places : List Place) (ws : List ℕ) (at : ℕ) (e : Entry) (rest : List ℕ) → length places ≤ 64 → Narrow (rangesAt places (e .place)) → Good places e → drop at ws ≡ wordsOfEntry e ++ rest → at + length (wordsOfEntry e) ≤ mostWords → readEntry places ws at ≡ read e (at + length (wordsOfEntry e))
-unfolding readEntry tokenIn
+unfolding readEntry
 entry-reads places ws at e rest few n g d h =
     let l = length-map (e .colour) valueWord in
     let i = g .placed in
@@ -73,8 +71,8 @@ entry-reads places ws at e rest few n g d h =
     let w : ℕ = tokenWord (e .place) (e .count) in
     let p : bits 14 21 (payload w) ≡ e .place = token-place (e .place) (e .count) x y in
     let q : bits 0 13 (payload w) ≡ e .count = token-count (e .place) (e .count) x y in
-    let o = parts-token places (payload w) (token-stray (e .place) (e .count) x y) (rw p (g .placed)) (rw q (g .some)) in
-    let f = word-reads ws 0xB (tokenIn places) at w (map valueWord (e .colour) ++ rest) d (omega arith) (token-kind (e .place) (e .count) x y) o in
+    let o = parts-token (length places) (payload w) (token-stray (e .place) (e .count) x y) (rw p (g .placed)) (rw q (g .some)) in
+    let f = word-reads ws 0xB (tokenIn (length places)) at w (map valueWord (e .colour) ++ rest) d (omega arith) (token-kind (e .place) (e .count) x y) o in
     let v = values-reads ws (rangesAt places (e .place)) (at + 1) (e .colour) rest n (drop-first ws at w (map valueWord (e .colour) ++ rest) d .2) (g .ranged) (omega arith) in
     let s : at + 1 + length (e .colour) ≡ at + length (wordsOfEntry e) = omega arith in
     rw (f, p, q, v, s)
