@@ -3,6 +3,7 @@ use expression::read::Skipped;
 use search::plan::search_plan;
 use semantics::Listed;
 use situations::situation::prepare;
+use spares::spare::leave_out;
 use word::size::at_most;
 ghost use mathlib.Core.Path.{_≡_};
 ghost use lib.ListN.{length, replicate};
@@ -52,6 +53,8 @@ pub fn list_bindings(
     ensures { λ r. ⌜ IsListed (now (net .entry)) position (now (marking .entry)) budget (now (menu .entry)) r (now (menu .exit)) ⌝ }
 {
     let mut slots = [0u32; 8];
+    let mut tested = [0usize; 8];
+    let n = leave_out(net, places, inputs, elements, &mut tested);
     let most = most_rows(menu.len(), variables);
     let end = search_plan(
         net,
@@ -60,6 +63,7 @@ pub fn list_bindings(
         variables,
         conjuncts,
         inputs,
+        &tested[..n],
         elements,
         marking,
         begins,

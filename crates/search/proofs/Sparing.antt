@@ -1,158 +1,142 @@
--- The arc that leaves behind a match do not look up. Its words say that it takes one token, that its components are constants and lone variables, and that no
--- other input arc has its place; so the theorem of semantics/proofs/Spared says that a leaf's binding is enabled exactly where it is without that arc.
+-- The arcs that leaves do not look up. Their words say that each takes one token, that its components are constants and lone variables, that no other input
+-- arc has its place, and that an element matches it; so the theorem of semantics/proofs/Settled says that a leaf's binding is enabled exactly where it is
+-- without those arcs.
 use mathlib.Core.Path.{_≡_, refl, sym, ap, _∙_, subst}
-use mathlib.Core.Logic.{_⊎_, inl, inr}
-use mathlib.Core.Bool.{Bool, true, false}
-use mathlib.Core.List.{List, [], _∷_, map, Memᴰ·of-map}
-use mathlib.Core.Option.{none, some}
+use mathlib.Core.Logic.{inl}
+use mathlib.Core.Bool.{Bool}
+use mathlib.Core.List.{List, [], _∷_, map, List·Memᴰ, List·Memᴰ·head, List·Memᴰ·tail}
+use mathlib.Core.Option.{some}
 use Prim.Native.Nat.{ℕ, zero, suc, _+_, _≤_, _<_}
 use native.Mathlib.Omega.{arith}
-use borrow.Author.Tests.{leb-true, ltb-true, ltb-false}
 use lib.IntN.{ℤ, pos}
-use lib.Dec.{leb, ltb}
-use lib.ListN.{length, getD, getElem?, take, length-take, length-map}
-use lib.Seq.{getD-take}
+use lib.ListN.{length, getD, getElem?, drop, length-map}
 use Rattle.semantics.specs.Lists.{Every}
-use Rattle.semantics.specs.Word.{kind, payload, signed}
-use Rattle.semantics.specs.Expression.{Expression, constant, variable, binary, load, houseTable, value, valuesOf, bound}
-use Rattle.semantics.specs.Reading.{read}
-use Rattle.semantics.specs.Net.{Arc, match, rangesAt}
-use Rattle.semantics.specs.ReadNet.{readExpression, readArc}
-use Rattle.semantics.specs.Order.{tuples}
+use Rattle.semantics.specs.Word.{kind, payload, bits, signed}
+use Rattle.semantics.specs.Expression.{Expression, constant, variable, binary, load, houseTable, bound}
+use Rattle.semantics.specs.Reading.{read, several}
+use Rattle.semantics.specs.Net.{Arc, Element, match}
+use Rattle.semantics.specs.ReadNet.{sortOf, readExpression, readArc}
 use Rattle.semantics.specs.Enabling.{isEnabled}
-use Rattle.semantics.specs.Tries.{Partial, partly, coloursOn, matched, tries}
+use Rattle.semantics.specs.Tries.{Partial, partly, tries}
 use Rattle.semantics.specs.Calls.{Situation}
-use Rattle.semantics.proofs.Tests.{either, selected, Every-of}
-use Rattle.semantics.proofs.Members.{number-member, length-at, member-at}
-use Rattle.semantics.proofs.Tuples.{tuples-in}
-use Rattle.semantics.proofs.Partial.{range-length}
-use Rattle.semantics.proofs.Spared.{taking, spared, Lone, matched-values}
-use Rattle.expression.proofs.Laws.{constant-alone}
-use Rattle.net.specs.Places.{placesAt}
+use Rattle.semantics.proofs.Spans.{several-split}
+use Rattle.semantics.proofs.Leaves.{Sound}
+use Rattle.semantics.proofs.Spared.{taking, Lone}
+use Rattle.semantics.proofs.Settled.{kept, every-kept, kept-map, Settles, settled-next, settled-leaf}
+use Rattle.expression.proofs.Spelled.{HeadWord, headOfTree}
+use Rattle.expression.proofs.Laws.{first-word, variable-alone, constant-alone}
+use Rattle.net.specs.Places.{widthAt, placesAt}
 use Rattle.net.proofs.Located.{At, transition-parts}
-use Rattle.net.proofs.Standing.{ArcParts, arc-parts, coefficient-inside}
-use Rattle.elements.specs.declared.element.Element.{Element as CodeElement}
-use Rattle.elements.specs.declared.element.Sort.the-variants.{Match}
-use Rattle.elements.specs.Bound.{sorted}
+use Rattle.net.proofs.Placed.{places-length, width-at}
+use Rattle.net.proofs.Standing.{placeOf, ArcParts, arc-parts, inputs-stand}
 use Rattle.evaluation.specs.Evaluate.{lent}
 use Rattle.occurrence.specs.Answers.{IsEnabledAt}
 use Rattle.occurrence.proofs.Reading.{arcs-told, guard-told}
-use Rattle.spares.specs.Spare.{without, Within, Spares, IsSpare}
-use Rattle.spares.proofs.Sparing.{split, without-past, without-map}
-use Rattle.tries.specs.Partial.{partialOf}
-use Rattle.arrivals.specs.declared.step.Step.{Step}
-use Rattle.arrivals.specs.Step.{Begin, Told, IsArrival}
+use Rattle.spares.specs.Spare.{Inside, Within, IsMatched, Spares, Unspared}
+use Rattle.spares.proofs.Sparing.{out-at}
 use Rattle.arrivals.specs.World.{World}
-use Rattle.arrivals.proofs.Tries.{arc-inside, arc-here, arc-sound, match-aim}
+use Rattle.arrivals.proofs.Tries.{arc-inside, arc-here, arc-sound}
+use Rattle.search.specs.Search.{Settling}
 use Rattle.search.proofs.Values.{full-bound}
+use Rattle.search.proofs.Worlds.{next-element}
 
 -- ── Words ──
 
--- the word 0x70000001 is the constant 1
-one-read : (ws : List ℕ) (v at : ℕ) (e : Expression) (next : ℕ) → readExpression ws v at ≡ read e next → getD ws at 0 ≡ 0x70000001 → e ≡ constant (pos 1)
-one-read ws v at e next h w = constant-alone ws v at h (ap kind w) .0 ∙ ap (λ (u : ℕ). constant (signed (payload u))) w
+-- the word 0x70000001 is the constant 1, and stands alone
+one-read : (ws : List ℕ) (v at : ℕ) (e : Expression) (next : ℕ) → readExpression ws v at ≡ read e next → getD ws at 0 ≡ 0x70000001 → (e ≡ constant (pos 1)) × (next ≡ at + 1)
+one-read ws v at e next h w = let a = constant-alone ws v at h (ap kind w) in (a .0 ∙ ap (λ (u : ℕ). constant (signed (payload u))) w, a .1)
 
--- components whose first words are not those of operators
-begin-lone : (ps : List ℕ) (es : List Expression) → Begin ps es → ((i : ℕ) → i < length ps → kind (getD ps i 0) ≡ 9 → ⊥) → Every Lone es
-begin-lone [] [] b f = tt
-begin-lone [] (e ∷ es) b f = absurd b
-begin-lone (p ∷ ps) [] b f = absurd b
-begin-lone (p ∷ ps) (constant z ∷ es) b f = (tt, begin-lone ps es (b .1) (λ i h. f (suc i) (omega arith)))
-begin-lone (p ∷ ps) (variable n ∷ es) b f = (tt, begin-lone ps es (b .1) (λ i h. f (suc i) (omega arith)))
-begin-lone (p ∷ ps) (binary o x y ∷ es) b f = absurd (f zero (omega arith) (b .0))
-begin-lone (p ∷ ps) (load x ∷ es) b f = absurd (f zero (omega arith) (b .0))
+-- an expression that does not begin with an operator is one word
+lone-first : (ws : List ℕ) (v at : ℕ) (e : Expression) (next : ℕ) → readExpression ws v at ≡ read e next → HeadWord (getD ws at 0) (headOfTree e) → (kind (getD ws at 0) ≡ 9 → ⊥) → Lone e × (next ≡ at + 1)
+lone-first ws v at (constant z) next h w n = (tt, constant-alone ws v at h (w .0) .1)
+lone-first ws v at (variable k) next h w n = (tt, variable-alone ws v at h (w .0) .1)
+lone-first ws v at (binary o x y) next h w n = absurd (n w)
+lone-first ws v at (load x) next h w n = absurd (n w)
 
--- ── All but one ──
+-- so do several
+lone-read : (ws : List ℕ) (v n at : ℕ) (es : List Expression) (next : ℕ) → several n (readExpression ws v) at ≡ read es next → ((i : ℕ) → i < n → kind (getD ws (at + i) 0) ≡ 9 → ⊥) → Every Lone es
+unfolding several
+lone-read ws v zero at es next h f = let e : read [] at ≡ read es next = h in let d : [] ≡ es = cc in subst (Every Lone) d tt
+lone-read ws v (suc n) at es next h f =
+    let t = several-split (readExpression ws v) n at es next h in
+    let z : at + 0 ≡ at = omega arith in
+    let o = lone-first ws v at (t .first) (t .mid) (t .reads) (first-word ws v at (t .reads)) (subst (λ (k : ℕ). kind (getD ws k 0) ≡ 9 → ⊥) z (f zero (omega arith))) in
+    let m = o .1 in
+    subst (Every Lone) (sym (t .whole)) (o .0, lone-read ws v n (t .mid) (t .others) next (t .rest) (λ i l. let q : at + suc i ≡ t .mid + i = omega arith in subst (λ (k : ℕ). kind (getD ws k 0) ≡ 9 → ⊥) q (f (suc i) (omega arith))))
 
-module _ {A : Type 0} (P : A → Type 0) where
-  pub every-without : (l : List A) (k : ℕ) → ((j : ℕ) (x : A) → getElem? l j ≡ some x → (j ≡ k → ⊥) → P x) → Every P (without l k)
-  unfolding without
-  every-without [] k f = tt
-  every-without (x ∷ xs) zero f = Every-of P xs (λ y m. let n = member-at m in f (suc (n .0)) y (n .1) (λ e. absurd (omega arith)))
-  every-without (x ∷ xs) (suc k) f = (f zero x refl (λ e. absurd (omega arith)), every-without xs k (λ j y h n. f (suc j) y h (λ e. n (omega arith))))
+-- an ELEMENT word of the sort 0 is a match
+match-sort : (w j : ℕ) → w ≡ 0xA0000000 + j → j < 8 → sortOf (bits 8 9 (payload w)) (bits 0 7 (payload w)) ≡ match j
+match-sort w j e h = let a : bits 8 9 (payload w) ≡ 0 = omega arith in let b : bits 0 7 (payload w) ≡ j = omega arith in rw (a, b)
 
-  pub every-but : (l : List A) (k : ℕ) → Every P l → Every P (without l k)
-  unfolding without
-  every-but [] k h = tt
-  every-but (x ∷ xs) zero h = h .1
-  every-but (x ∷ xs) (suc k) h = (h .0, every-but xs k (h .1))
+-- ── Elements ──
 
--- ── A leaf behind a match ──
+dropped-member : {A : Type 0} (l : List A) (i : ℕ) (x : A) (r : List A) → drop i l ≡ x ∷ r → List·Memᴰ x l
+dropped-member l zero x r e = subst (λ y. List·Memᴰ x y) (sym e) (List·Memᴰ·head refl)
+dropped-member [] (suc i) x r e = let n : _≡_ {A = ℕ} 0 (suc (length r)) = ap length e in absurd (omega arith)
+dropped-member (y ∷ l) (suc i) x r e = List·Memᴰ·tail (dropped-member l i x r e)
 
 module _ {ws ps : List ℕ} {position v : ℕ} {inputs conjuncts elements ms begins : List ℕ} {s : Situation} (W : World ws ps position v inputs conjuncts elements ms begins s) where
   reading : (k : ℕ) (a : Arc) → getElem? (s .transition .inputs) k ≡ some a → ArcParts ws (placesAt ws ps) v (getD inputs k 0) a
   reading k a e = arc-parts ws (placesAt ws ps) v (getD inputs k 0) (arc-here W k a e .1)
 
-  -- every input arc stands in the net, with its coefficient behind it
-  pub inputs-within : Within ws inputs
-  inputs-within = record { each = λ i h. by i (length-at (s .transition .inputs) i (rw (W .arcs, length-map (s .transition .inputs) (λ (a : Arc). a .position)) at h)) }
-    where
-      by : (i : ℕ) → (a : Arc) × (getElem? (s .transition .inputs) i ≡ some a) → getD inputs i 0 + 1 < length ws
-      by i (a, e) = coefficient-inside ws (placesAt ws ps) v (getD inputs i 0) (arc-here W i a e .1) .0
+  -- the input arcs and the elements stand in the net
+  pub all-within : Within ws ps inputs elements
+  all-within = record { variables = v; arcs = inputs-stand ws (s .net .places) position (s .transition) (W .after) (W .there) v (W .many) ps (W .placed) (W .arcs); plan = record { each = λ i h. next-element W i h .there .inside } }
 
-  module _ (k : ℕ) (a : Arc) (named : getElem? (s .transition .inputs) k ≡ some a) {parts : List ℕ} {width : ℕ} (S : Spares ws inputs parts width k) where
-    -- no other input arc is of its place
-    others : Every (λ (x : Arc). x .place ≡ a .place → ⊥) (without (s .transition .inputs) k)
-    others = every-without (λ (x : Arc). x .place ≡ a .place → ⊥) (s .transition .inputs) k (λ j x e n p.
-        let r = reading k a named in
-        let q = reading j x e in
-        S .alone .others j (arc-inside W j x e) n (let r₀ = r .kind in let r₁ = r .place in let q₀ = q .kind in let q₁ = q .place in omega arith))
+  -- ── An arc that is spared by its words ──
 
-    takes-one : a .coefficient ≡ constant (pos 1)
+  module _ (k : ℕ) (a : Arc) (named : getElem? (s .transition .inputs) k ≡ some a) (S : Spares ws ps inputs elements k) where
+    takes-one : (a .coefficient ≡ constant (pos 1)) × (reading k a named .mid ≡ getD inputs k 0 + 1 + 1)
     takes-one = let r = reading k a named in one-read ws v (getD inputs k 0 + 1) (a .coefficient) (r .mid) (r .coefficient) (S .one)
 
-    -- the colour of a try is what the arc takes under the binding that the try leads to, and it is marked
-    module _ (begin : Begin (take width parts) (a .components)) (p q : Partial) (zs : List ℤ) (full : q ≡ map some zs) (l : length p ≡ length (s .transition .variables)) (i : ℕ) (h : i < length (tries houseTable (s .net) (s .transition) (s .counts) (match k) p)) (on : getD (tries houseTable (s .net) (s .transition) (s .counts) (match k) p) i none ≡ some q) where
-      lone : Every Lone (a .components)
-      lone = begin-lone (take width parts) (a .components) begin (λ j d. let m = length-take width parts in λ e. S .lone .each j (omega arith) (ap kind (sym (getD-take width parts j 0 (omega arith))) ∙ e))
+    lone : Every Lone (a .components)
+    lone =
+        let r = reading k a named in
+        let p : placeOf ws (getD inputs k 0) < length ps = rw (places-length ws ps) at (r .there) in
+        let m : reading k a named .mid ≡ getD inputs k 0 + 2 = takes-one .1 ∙ omega arith in
+        lone-read ws v (widthAt ws (getD ps (placeOf ws (getD inputs k 0)) 0)) (getD inputs k 0 + 2) (a .components) (r .next) (rw (width-at ws ps (placeOf ws (getD inputs k 0)) p, m) at (r .components)) (S .lone .each)
 
-      colour : (c : List ℤ) × (matched (s .transition .variables) (a .components) c p ≡ some q) × (length c ≡ length (a .components)) × (1 ≤ s .counts (a .place) c)
-      unfolding tries coloursOn
-      colour =
-          let u = Memᴰ·of-map (λ c. matched (s .transition .variables) (a .components) c p) (coloursOn (s .net) (s .counts) (a .place)) (rw named at (number-member (tries houseTable (s .net) (s .transition) (s .counts) (match k) p) i none (some q) h on)) in
-          let w = selected (λ c. leb 1 (s .counts (a .place) c)) (tuples (rangesAt (s .net .places) (a .place))) (u .1) in
-          let n = range-length (rangesAt (s .net .places) (a .place)) (u .0) (tuples-in (rangesAt (s .net .places) (a .place)) (u .0) (w .0)) in
-          (u .0, u .2, n ∙ sym (arc-sound W k a named .width), leb-true 1 (s .counts (a .place) (u .0)) (w .1))
+    -- no other input arc is of its place
+    others : (j : ℕ) (x : Arc) → getElem? (s .transition .inputs) j ≡ some x → (j ≡ k → ⊥) → x .place ≡ a .place → ⊥
+    others j x e n p =
+        let r = reading k a named in
+        let q = reading j x e in
+        S .alone .others j (arc-inside W j x e) n (let r₀ = r .kind in let r₁ = r .place in let q₀ = q .kind in let q₁ = q .place in omega arith)
 
-      pub enabled-spared : isEnabled houseTable (taking (s .transition) (without (s .transition .inputs) k)) (s .counts) zs ≡ isEnabled houseTable (s .transition) (s .counts) zs
-      unfolding value
-      enabled-spared =
-          let o = split (s .transition .inputs) k a named in
-          let c = colour in
-          let env : partly q ≡ bound zs = ap partly full ∙ full-bound zs in
-          ap (λ (as′ : List Arc). isEnabled houseTable (taking (s .transition) as′) (s .counts) zs) (o .others)
-          ∙ spared houseTable (s .transition) (s .counts) zs (o .front) (o .rest) a (c .0) (o .whole)
-          (ap (value houseTable (bound zs)) takes-one)
-          (ap (λ e. valuesOf houseTable e (a .components)) (sym env) ∙ matched-values houseTable (s .transition .variables) (a .components) (c .0) p q l (sym (c .2)) lone (c .1))
-          (c .3)
-          (subst (Every (λ (x : Arc). x .place ≡ a .place → ⊥)) (o .others) others)
+    -- an element of the plan matches it
+    planned : k < 8 → (e : Element) × List·Memᴰ e (s .transition .plan) × (e .sort ≡ match k)
+    planned h =
+        let m = S .matched in
+        let n = next-element W (m .number) (m .inside) in
+        (n .element, dropped-member (s .transition .plan) (m .number) (n .element) (drop (m .number + 1) (s .transition .plan)) (n .ahead), n .there .sort ∙ match-sort (getD ws (getD elements (m .number) 0) 0) k (m .word) h)
 
-  -- ── What a leaf is told ──
+  -- ── What leaves look up ──
 
-  -- the test of enabling at the positions of all input arcs but one
-  pub told-without : (k : ℕ) {tested : List ℕ} → tested ≡ without inputs k → (bs : List ℕ) (zs : List ℤ) → length bs ≡ v → lent bs ≡ bound zs → {r : Bool} → IsEnabledAt ws ps conjuncts tested ms begins bs r → r ≡ isEnabled houseTable (taking (s .transition) (without (s .transition .inputs) k)) (s .counts) zs
+  pub settling : {tested : List ℕ} → length inputs ≤ 8 → Unspared ws ps inputs elements tested → (p : Partial) → Settling s inputs tested (s .transition .plan) p
+  settling l U p = record {
+    mask = U .mask;
+    same = U .same;
+    settled = record {
+      each = λ j a n f.
+          let z : j + 0 ≡ j = omega arith in
+          let S : Spares ws ps inputs elements j = subst (Spares ws ps inputs elements) z (out-at (Spares ws ps inputs elements) 0 (U .mask) (U .spares) j f) in
+          let i = arc-inside W j a n in
+          record { one = takes-one j a n S .0; lone = lone j a n S; only = others j a n S; found = inl (planned j a n S (omega arith)) };
+    };
+  }
+
+  -- behind a try that goes on
+  pub settling-next : {tested : List ℕ} {e : Element} {es : List Element} {p : Partial} → Sound (s .transition) (e ∷ es) p → (q : Partial) → List·Memᴰ (some q) (tries houseTable (s .net) (s .transition) (s .counts) (e .sort) p) → Settling s inputs tested (e ∷ es) p → Settling s inputs tested es q
+  settling-next S q i T = record { mask = T .mask; same = T .same; settled = settled-next houseTable (s .counts) (s .net) (λ j a n. arc-sound W j a n .width) S q i (T .settled) }
+
+  -- at a leaf: the test of enabling at those positions
+  pub told-settled : {tested : List ℕ} {p : Partial} → Settling s inputs tested [] p → (bs : List ℕ) (zs : List ℤ) → p ≡ map some zs → length bs ≡ v → lent bs ≡ bound zs → {r : Bool} → IsEnabledAt ws ps conjuncts tested ms begins bs r → r ≡ isEnabled houseTable (s .transition) (s .counts) zs
   unfolding isEnabled
-  told-without k {tested} e bs zs l u f =
+  told-settled {tested} T bs zs full l u {r} f =
       let t = s .transition in
+      let m = T .mask in
       let pieces = transition-parts ws (s .net .places) position t (W .after) (W .there) in
-      let i : tested ≡ map (λ (a : Arc). a .position) (without (t .inputs) k) = e ∙ ap (λ (x : List ℕ). without x k) (W .arcs) ∙ without-map (λ (a : Arc). a .position) (t .inputs) k in
-      let at : Every (At (readArc ws (s .net .places) (length (t .variables))) (λ (a : Arc). a .position)) (without (t .inputs) k) = every-but _ (t .inputs) k (pieces .inputs) in
-      rw (W .counted) (f .enabled (s .net .places) (W .placed) (W .entries) (W .end) (W .marked) (W .begun) ∙ rw (W .guards, i, guard-told ws bs (s .net .places) position t (W .after) (W .there) (l ∙ W .many), arcs-told ws bs (length (t .variables)) (l ∙ W .many) ps (s .net .places) (W .placed) (without (t .inputs) k) at, u))
-
-  module _ {e : CodeElement} {b parts known : List ℕ} {step : Step} (A : IsArrival ws ps position v inputs conjuncts ms begins e b parts known step) {k : ℕ} (sp : IsSpare ws inputs (step .element) parts (step .width) k) (q : Partial) (zs : List ℤ) (full : q ≡ map some zs) (l : length (partialOf v b) ≡ length (s .transition .variables)) (i : ℕ) (h : i < length (tries houseTable (s .net) (s .transition) (s .counts) (sorted (step .element .sort)) (partialOf v b))) (on : getD (tries houseTable (s .net) (s .transition) (s .counts) (sorted (step .element .sort)) (partialOf v b)) i none ≡ some q) where
-    found : k < length inputs → isEnabled houseTable (taking (s .transition) (without (s .transition .inputs) k)) (s .counts) zs ≡ isEnabled houseTable (s .transition) (s .counts) zs
-    found d =
-        let g : step .element .sort ≡ Match k = sp .matched d in
-        let g′ : e .sort ≡ Match k = ap (λ (x : CodeElement). x .sort) (sym (A .element)) ∙ g in
-        let m = length-at (s .transition .inputs) k (rw (W .arcs, length-map (s .transition .inputs) (λ (a : Arc). a .position)) at d) in
-        let t : Told ws ps position v inputs conjuncts ms begins e parts step (Match k) = subst (Told ws ps position v inputs conjuncts ms begins e parts step) g′ (A .told) in
-        let o : sorted (step .element .sort) ≡ match k = ap sorted g in
-        enabled-spared k (m .0) (m .1) (sp .spares d) (match-aim W A k (m .0) (m .1) t .begin) (partialOf v b) q zs full l i (rw o at h) (rw o at on)
-
-    pub told-spared : isEnabled houseTable (taking (s .transition) (without (s .transition .inputs) k)) (s .counts) zs ≡ isEnabled houseTable (s .transition) (s .counts) zs
-    unfolding isEnabled
-    told-spared = by (either (ltb k (length inputs)))
-      where
-        by : (ltb k (length inputs) ≡ true) ⊎ (ltb k (length inputs) ≡ false) → isEnabled houseTable (taking (s .transition) (without (s .transition .inputs) k)) (s .counts) zs ≡ isEnabled houseTable (s .transition) (s .counts) zs
-        by (inl d) = found (ltb-true k (length inputs) d)
-        by (inr d) = let n = ltb-false k (length inputs) d in let m : length inputs ≡ length (s .transition .inputs) = ap length (W .arcs) ∙ length-map (s .transition .inputs) (λ (a : Arc). a .position) in rw (without-past (s .transition .inputs) k (omega arith)) refl
+      let i : tested ≡ map (λ (a : Arc). a .position) (kept m (t .inputs)) = T .same ∙ ap (kept m) (W .arcs) ∙ kept-map (λ (a : Arc). a .position) m (t .inputs) in
+      let at : Every (At (readArc ws (s .net .places) (length (t .variables))) (λ (a : Arc). a .position)) (kept m (t .inputs)) = every-kept _ m (t .inputs) (pieces .inputs) in
+      let told : r ≡ isEnabled houseTable (taking t (kept m (t .inputs))) (s .counts) zs = rw (W .counted) (f .enabled (s .net .places) (W .placed) (W .entries) (W .end) (W .marked) (W .begun) ∙ rw (W .guards, i, guard-told ws bs (s .net .places) position t (W .after) (W .there) (l ∙ W .many), arcs-told ws bs (length (t .variables)) (l ∙ W .many) ps (s .net .places) (W .placed) (kept m (t .inputs)) at, u)) in
+      told ∙ settled-leaf houseTable (s .counts) (T .settled) zs (ap partly full ∙ full-bound zs)

@@ -19,6 +19,7 @@ use Rattle.semantics.specs.Enabling.{isEnabled}
 use Rattle.semantics.specs.Tries.{Partial, partly, bindingOf, tries, countTries}
 use Rattle.semantics.specs.Calls.{Situation}
 use Rattle.semantics.proofs.Members.{number-member}
+use Rattle.semantics.proofs.Settled.{every-kept, kept-length}
 use Rattle.semantics.proofs.Extending.{Extends, tries-extend}
 use Rattle.semantics.proofs.Leaves.{Sound, sound-fits, sound-next, sound-leaf}
 use Rattle.semantics.proofs.Menu.{binding-full}
@@ -26,7 +27,6 @@ use Rattle.net.specs.Places.{PlacesFit}
 use Rattle.evaluation.specs.Evaluate.{valueOf, lent}
 use Rattle.arcs.specs.Keys.{Known}
 use Rattle.arcs.proofs.Gathering.{known-kept, known-stays}
-use Rattle.spares.specs.Spare.{without, IsSpare}
 use Rattle.occurrence.specs.Answers.{IsEnabledAt}
 use Rattle.elements.specs.declared.element.Element.{Element as CodeElement}
 use Rattle.elements.specs.Bound.{sorted}
@@ -42,12 +42,12 @@ use Rattle.arrivals.specs.Step.{Noted, Safe, Ready, triesBy, IsArrival}
 use Rattle.arrivals.specs.World.{World}
 use Rattle.arrivals.proofs.Tries.{arrival-ready, arrival-tries, tries-length}
 use Rattle.leaves.specs.declared.progress.Progress.{Progress}
-use Rattle.search.specs.Search.{costFrom, rowsFrom}
+use Rattle.search.specs.Search.{costFrom, rowsFrom, Settling}
 use Rattle.leaves.specs.Leaf.{Held, Unspent, Ended, progress, IsLeaf}
 use Rattle.search.proofs.Trying.{rowsOver}
 use Rattle.search.proofs.Worlds.{few-inputs, next-element, as-many}
 use Rattle.search.proofs.Values.{slots-values, full-lent, enabled-full}
-use Rattle.search.proofs.Sparing.{every-but, told-without, told-spared}
+use Rattle.search.proofs.Sparing.{settling-next, told-settled}
 use Rattle.search.proofs.Steps.{cost-step, rows-step, cost-leaf, rows-leaf}
 
 -- the same, of costs and rows that are equal
@@ -64,8 +64,9 @@ lent-partly : (v : ℕ) (b : List ℕ) → length b ≡ v → lent b ≡ partly 
 lent-partly v b l = ap lent (sym (take-all v b (omega arith))) ∙ slots-lent v b
 
 -- a try that went on, and what the rest of the plan is handed
-pub record Onward (s : Situation) (v d : ℕ) (b : List ℕ) (most budget : ℕ) (cur : Progress) (m : List ℕ) : Type 0 where
+pub record Onward (s : Situation) (inputs tested : List ℕ) (v d : ℕ) (b : List ℕ) (most budget : ℕ) (cur : Progress) (m : List ℕ) : Type 0 where
   pub sound : Sound (s .transition) (drop (d + 1) (s .transition .plan)) (partialOf v b)
+  pub settled : Settling s inputs tested (drop (d + 1) (s .transition .plan)) (partialOf v b)
   pub long : length b ≡ v
   pub held : Held v most (cur .rows) m
   pub unspent : Unspent budget (record { tries = cur .tries + 1; rows = cur .rows; spent = cur .spent; full = cur .full })
@@ -83,16 +84,21 @@ went {w} {most} {budget} {cur} {m} {cost} {rows} {r₁ = r₁} {m′ = m′} h k
   slots = ap length e ∙ l;
 }
 
+module _ {ws ps : List ℕ} {position v : ℕ} {inputs conjuncts elements ms begins : List ℕ} {s : Situation} (W : World ws ps position v inputs conjuncts elements ms begins s) where
+  -- at most eight positions are looked up
+  pub tested-few : {tested : List ℕ} {es : List Element} {p : Partial} → Settling s inputs tested es p → length tested ≤ 8
+  tested-few T = let f = few-inputs W in let k = kept-length (T .mask) inputs in let e = ap length (T .same) in omega arith
+
 module _ {ws ps : List ℕ} {position v : ℕ} {inputs conjuncts elements ms begins : List ℕ} {s : Situation} (W : World ws ps position v inputs conjuncts elements ms begins s) (d : ℕ) (b : List ℕ) (S : Sound (s .transition) (drop d (s .transition .plan)) (partialOf v b)) where
   -- ── Arcs ──
 
   module _ (l : length b ≡ v) where
-    -- the input arcs of the transition stand at their positions, and so do all of them but one
+    -- the input arcs of the transition stand at their positions, and so do those that leaves look up
     pub inputs-there : Every (HasArc ws ps (length b)) inputs
     inputs-there = inputs-stand ws (s .net .places) position (s .transition) (W .after) (W .there) (length b) (l ∙ W .many) ps (W .placed) (W .arcs)
 
-    pub others-there : (k : ℕ) {tested : List ℕ} → tested ≡ without inputs k → Every (HasArc ws ps (length b)) tested
-    others-there k e = subst (Every (HasArc ws ps (length b))) (sym e) (every-but (HasArc ws ps (length b)) inputs k inputs-there)
+    pub tested-there : {tested : List ℕ} {es : List Element} {p : Partial} → Settling s inputs tested es p → Every (HasArc ws ps (length b)) tested
+    tested-there T = subst (Every (HasArc ws ps (length b))) (sym (T .same)) (every-kept (HasArc ws ps (length b)) (T .mask) inputs inputs-there)
 
   -- ── At the end of the plan ──
 
@@ -134,11 +140,9 @@ module _ {ws ps : List ℕ} {position v : ℕ} {inputs conjuncts elements ms beg
       pub walked-leaf : {most budget t : ℕ} {spent : Bool} {c : Inserted} {m : List ℕ} {r : Inserted} {m′ : List ℕ} → Unspent budget (progress t spent c) → IsLeaf ws ps conjuncts inputs ms begins most b c m r m′ → Ended v most budget (c .rows) m t (listingOf v (c .rows) (c .full) m) (costFrom s (drop d (s .transition .plan)) (partialOf v b)) (rowsFrom s (drop d (s .transition .plan)) (partialOf v b)) (progress t spent r) m′
       walked-leaf u i = leaf-ended (λ q x. enabled-full W b (full .0) (full .1) (ap length all ∙ l) q x) u i
 
-      -- behind a try of an arrival with the slots b₀, all input arcs are looked up but one that is spared
-      pub spared-leaf : {e : CodeElement} {b₀ parts known : List ℕ} {step : Step} → IsArrival ws ps position v inputs conjuncts ms begins e b₀ parts known step → length b₀ ≡ v → {k : ℕ} → IsSpare ws inputs (step .element) parts (step .width) k → {tested : List ℕ} → tested ≡ without inputs k → (i : ℕ) → i < length (tries houseTable (s .net) (s .transition) (s .counts) (sorted (step .element .sort)) (partialOf v b₀)) → getD (tries houseTable (s .net) (s .transition) (s .counts) (sorted (step .element .sort)) (partialOf v b₀)) i none ≡ some (partialOf v b) → {most budget t : ℕ} {spent : Bool} {c : Inserted} {m : List ℕ} {r : Inserted} {m′ : List ℕ} → Unspent budget (progress t spent c) → IsLeaf ws ps conjuncts tested ms begins most b c m r m′ → Ended v most budget (c .rows) m t (listingOf v (c .rows) (c .full) m) (costFrom s (drop d (s .transition .plan)) (partialOf v b)) (rowsFrom s (drop d (s .transition .plan)) (partialOf v b)) (progress t spent r) m′
-      spared-leaf {b₀ = b₀} A l₀ {k} sp e i h on u x =
-          let n : length (partialOf v b₀) ≡ length (s .transition .variables) = length-map (take v b₀) valueOf ∙ ap length (take-all v b₀ (omega arith)) ∙ l₀ ∙ W .many in
-          leaf-ended (λ q y. told-without W k e (take v b) (full .0) (ap length all ∙ l) (full-lent v b (full .0) (full .1)) y ∙ told-spared W A sp (partialOf v b) (full .0) (full .1) n i h on) u x
+      -- only those that are not settled are looked up
+      pub settled-leaf : {tested : List ℕ} → Settling s inputs tested (drop d (s .transition .plan)) (partialOf v b) → {most budget t : ℕ} {spent : Bool} {c : Inserted} {m : List ℕ} {r : Inserted} {m′ : List ℕ} → Unspent budget (progress t spent c) → IsLeaf ws ps conjuncts tested ms begins most b c m r m′ → Ended v most budget (c .rows) m t (listingOf v (c .rows) (c .full) m) (costFrom s (drop d (s .transition .plan)) (partialOf v b)) (rowsFrom s (drop d (s .transition .plan)) (partialOf v b)) (progress t spent r) m′
+      settled-leaf {tested} T u x = leaf-ended (λ q y. told-settled W (subst (λ (es : List Element). Settling s inputs tested es (partialOf v b)) none-left T) (take v b) (full .0) (full .1) (ap length all ∙ l) (full-lent v b (full .0) (full .1)) y) u x
 
   -- ── At an element ──
 
@@ -150,6 +154,7 @@ module _ {ws ps : List ℕ} {position v : ℕ} {inputs conjuncts elements ms beg
     pub same : triesBy ws (position + 1) v ms step parts (partialOf v b) ≡ tries houseTable (s .net) (s .transition) (s .counts) (sorted (step .element .sort)) (partialOf v b)
     pub sound : (q : Partial) (i : ℕ) → i < length (tries houseTable (s .net) (s .transition) (s .counts) (sorted (step .element .sort)) (partialOf v b)) → getD (tries houseTable (s .net) (s .transition) (s .counts) (sorted (step .element .sort)) (partialOf v b)) i none ≡ some q → Sound (s .transition) (drop (d + 1) (s .transition .plan)) q
     pub extends : (q : Partial) (i : ℕ) → i < length (tries houseTable (s .net) (s .transition) (s .counts) (sorted (step .element .sort)) (partialOf v b)) → getD (tries houseTable (s .net) (s .transition) (s .counts) (sorted (step .element .sort)) (partialOf v b)) i none ≡ some q → Extends (partly (partialOf v b)) (partly q)
+    pub settles : (tested : List ℕ) → Settling s inputs tested (drop d (s .transition .plan)) (partialOf v b) → (q : Partial) (i : ℕ) → i < length (tries houseTable (s .net) (s .transition) (s .counts) (sorted (step .element .sort)) (partialOf v b)) → getD (tries houseTable (s .net) (s .transition) (s .counts) (sorted (step .element .sort)) (partialOf v b)) i none ≡ some q → Settling s inputs tested (drop (d + 1) (s .transition .plan)) q
     pub safe : Safe ms v step
     pub ready : Ready ws v step
     pub noted : Noted v b parts known
@@ -172,6 +177,7 @@ module _ {ws ps : List ℕ} {position v : ℕ} {inputs conjuncts elements ms beg
         same = u;
         sound = λ q i l x. sound-next houseTable (s .net) (s .counts) S′ q (among q i l x);
         extends = λ q i l x. tries-extend houseTable (s .net) (s .counts) S′ q (among q i l x);
+        settles = λ tested T q i l x. settling-next W S′ q (among q i l x) (subst (λ (es : List Element). Settling s inputs tested es (partialOf v b)) (n .ahead) T);
         safe = A .safe;
         ready = arrival-ready W A;
         noted = A .noted;

@@ -6,8 +6,6 @@ use elements::element::Element;
 use elements::element::element_of;
 use leaves::leaf::leaf;
 use leaves::progress::Progress;
-use spares::spare::leave_out;
-use spares::spare::spare_of;
 use tries::partial::restore;
 use tries::partial::save;
 use word::fields::payload;
@@ -22,7 +20,7 @@ ghost use Rattle.rows.specs.Rows.{listingOf};
 ghost use Rattle.tries.specs.Partial.{partialOf};
 ghost use Rattle.arrivals.specs.World.{World};
 ghost use Rattle.search.specs.Scene.{sceneOf};
-ghost use Rattle.search.specs.Search.{costFrom, rowsFrom};
+ghost use Rattle.search.specs.Search.{costFrom, rowsFrom, Settling};
 ghost use Rattle.leaves.specs.Leaf.{Held, Unspent, Ended};
 
 // The element at a position.
@@ -34,8 +32,8 @@ fn element_at(net: &[u32], at: usize) -> Element
 }
 
 // Walks the plan from the element `depth` on. A try writes the slots; what they held on arrival is put back after it, so they are left as they were.
-// A try of the last element that goes on is a leaf at once, which need not look up the arc that was matched, where that arc is spared. What the first of
-// the other arcs take, as far as the slots tell it on arrival, is gathered once for all tries.
+// A try of the last element that goes on is a leaf at once, which looks up the arcs that the plan does not settle. What the first of them take, as far as
+// the slots tell it on arrival, is gathered once for all tries.
 pub fn walk(
     net: &[u32],
     places: &[usize],
@@ -43,6 +41,7 @@ pub fn walk(
     variables: usize,
     conjuncts: &[usize],
     inputs: &[usize],
+    tested: &[usize],
     elements: &[usize],
     marking: &[u32],
     begins: &[usize],
@@ -56,6 +55,7 @@ pub fn walk(
     requires { ⌜ World (now net) (now places) position variables (now inputs) (now conjuncts) (now elements) (now marking) (now begins) (sceneOf (now net) position (now marking)) ⌝ }
     requires { ⌜ (depth < length (now elements)) × (length (now slots) ≡ variables) ⌝ }
     requires { ⌜ Sound (sceneOf (now net) position (now marking) .transition) (drop depth (sceneOf (now net) position (now marking) .transition .plan)) (partialOf variables (now slots)) ⌝ }
+    requires { ⌜ Settling (sceneOf (now net) position (now marking)) (now inputs) (now tested) (drop depth (sceneOf (now net) position (now marking) .transition .plan)) (partialOf variables (now slots)) ⌝ }
     requires { ⌜ Held variables most (s .rows) (now menu) ⌝ }
     requires { ⌜ Unspent budget s ⌝ }
     ensures { λ r. ⌜ Ended variables most budget (s .rows) (now (menu .entry)) (s .tries) (listingOf variables (s .rows) (s .full) (now (menu .entry))) (costFrom (sceneOf (now (net .entry)) position (now (marking .entry))) (drop depth (sceneOf (now (net .entry)) position (now (marking .entry)) .transition .plan)) (partialOf variables (now (slots .entry)))) (rowsFrom (sceneOf (now (net .entry)) position (now (marking .entry))) (drop depth (sceneOf (now (net .entry)) position (now (marking .entry)) .transition .plan)) (partialOf variables (now (slots .entry)))) r (now (menu .exit)) ⌝ }
@@ -77,14 +77,6 @@ pub fn walk(
         &mut parts,
         &mut known,
     );
-    let e = step.element;
-    let mut tested = [0usize; 8];
-    let n = leave_out(
-        inputs,
-        spare_of(net, inputs, e, &parts, step.width),
-        &mut tested,
-    );
-    let tested = &tested[..n];
     let mut keys = [0u64; 8];
     let mut amounts = [0u32; 8];
     let first = gather(net, places, slots, tested, 0, 0, &mut keys, &mut amounts);
@@ -139,6 +131,7 @@ pub fn walk(
                     variables,
                     conjuncts,
                     inputs,
+                    tested,
                     elements,
                     marking,
                     begins,

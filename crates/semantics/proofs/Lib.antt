@@ -14,6 +14,7 @@ pub mod Fitness
 pub mod Leaves
 pub mod Extending
 pub mod Spared
+pub mod Settled
 pub mod Menu
 pub mod Offer
 pub mod Plans

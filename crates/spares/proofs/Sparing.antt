@@ -1,9 +1,9 @@
--- The rules of sparing an arc: what the loops know of the components and arcs that they have passed, and a list without one member, taken apart at that
--- member.
+-- The rules of sparing arcs: what the loops know of the words, arcs and elements that they have passed, and that the components of an arc stand in the
+-- words behind its coefficient of one word.
 use mathlib.Core.Path.{_≡_, refl, sym, ap, _∙_, subst}
 use mathlib.Core.Logic.{_⊎_, inl, inr}
 use mathlib.Core.Bool.{Bool, true, false, not}
-use mathlib.Core.List.{List, [], _∷_, _++_, map}
+use mathlib.Core.List.{List, [], _∷_, _++_}
 use mathlib.Core.Option.{some}
 use Prim.Native.Nat.{ℕ, zero, suc, _+_, _≤_, _<_}
 use native.Mathlib.Nat.{eq-or-lt-of-le}
@@ -11,32 +11,40 @@ use native.Mathlib.Omega.{arith}
 use native.Mathlib.Numerals.{add-one}
 use borrow.Author.Needs.{needs}
 use borrow.Author.Tests.{not-false}
-use lib.ListN.{length, getD, getElem?, set, take, length-set, length-take}
+use lib.ListN.{length, getD, getElem?, set, take, length-set, length-take, length-append}
 use lib.Seq.{take-suc, take-all}
-use Rattle.semantics.specs.Word.{kind}
-use Rattle.semantics.proofs.Members.{none-some}
+use Rattle.semantics.specs.Word.{kind, payload}
+use Rattle.semantics.specs.Expression.{Expression}
+use Rattle.semantics.specs.Reading.{read, several}
+use Rattle.semantics.specs.ReadNet.{readExpression}
+use Rattle.semantics.proofs.Members.{none-some, every-number}
 use Rattle.semantics.proofs.Tests.{false-true}
+use Rattle.semantics.proofs.Spans.{then-read}
+use Rattle.semantics.proofs.Settled.{kept}
+use Rattle.expression.proofs.Laws.{constant-alone, expression-short}
+use Rattle.net.specs.Places.{widthAt, PlacesFit}
+use Rattle.net.specs.Standing.{HasArc}
 use Rattle.net.proofs.Loops.{take-set}
-use Rattle.elements.specs.declared.element.Element.{Element}
-use Rattle.elements.specs.declared.element.Sort.the-variants.{Match}
-use Rattle.spares.specs.Spare.{without, Within, AreLone, LoneIf, IsAlone, AloneIf, IsSpare, IsRest}
+use Rattle.net.proofs.Standing.{placeOf, parts, place-listed, components-read}
+use Rattle.net.proofs.Placed.{place-inside}
+use Rattle.spares.specs.Spare.{Inside, Within, AreLone, LoneIf, IsAlone, AloneIf, IsMatched, MatchedIf, Spares, SparesIf, LeftOut, Unspared, IsRest}
 
--- ── Components and arcs that were passed ──
+-- ── Words, arcs and elements that were passed ──
 
-pub lone-start : (parts : List ℕ) → AreLone parts 0
-lone-start parts = record { each = λ i h. absurd (omega arith) }
+pub lone-start : (ws : List ℕ) (at : ℕ) → AreLone ws at 0
+lone-start ws at = record { each = λ i h. absurd (omega arith) }
 
-pub lone-turn : {parts : List ℕ} {i : ℕ} → AreLone parts i → (kind (getD parts i 0) ≡ 9 → ⊥) → AreLone parts (i + 1)
-lone-turn {parts} {i} a n = record { each = λ j h. by j (eq-or-lt-of-le (omega arith)) }
+pub lone-turn : {ws : List ℕ} {at i : ℕ} → AreLone ws at i → (kind (getD ws (at + i) 0) ≡ 9 → ⊥) → AreLone ws at (i + 1)
+lone-turn {ws} {at} {i} a n = record { each = λ j h. by j (eq-or-lt-of-le (omega arith)) }
   where
-    by : (j : ℕ) → (j ≡ i) ⊎ (j < i) → kind (getD parts j 0) ≡ 9 → ⊥
-    by j (inl e) = subst (λ (k : ℕ). kind (getD parts k 0) ≡ 9 → ⊥) (sym e) n
+    by : (j : ℕ) → (j ≡ i) ⊎ (j < i) → kind (getD ws (at + j) 0) ≡ 9 → ⊥
+    by j (inl e) = subst (λ (k : ℕ). kind (getD ws (at + k) 0) ≡ 9 → ⊥) (sym e) n
     by j (inr l) = a .each j l
 
-pub lone-yes : {parts : List ℕ} {width i : ℕ} → AreLone parts i → width ≤ i → LoneIf parts width true
+pub lone-yes : {ws : List ℕ} {at width i : ℕ} → AreLone ws at i → width ≤ i → LoneIf ws at width true
 lone-yes a h = record { told = λ e. record { each = λ j l. a .each j (omega arith) } }
 
-pub lone-no : {parts : List ℕ} {width : ℕ} → LoneIf parts width false
+pub lone-no : {ws : List ℕ} {at width : ℕ} → LoneIf ws at width false
 lone-no = record { told = λ e. false-true e }
 
 pub alone-start : (ws inputs : List ℕ) (k : ℕ) → IsAlone ws inputs k 0
@@ -62,88 +70,133 @@ module _ {ws inputs : List ℕ} {k j : ℕ} (a : IsAlone ws inputs k j) where
 pub alone-no : {ws inputs : List ℕ} {k : ℕ} → AloneIf ws inputs k false
 alone-no = record { told = λ e. false-true e }
 
-module _ {ws inputs : List ℕ} {i : ℕ} (w : Within ws inputs) (h : i < length inputs) where
-  pub within-arc : getD inputs i 0 < length ws
-  within-arc = let k = w .each i h in omega arith
+pub matched-yes : {ws elements : List ℕ} {k i : ℕ} → i < length elements → getD ws (getD elements i 0) 0 ≡ 0xA0000000 + k → MatchedIf ws elements k true
+matched-yes {i = i} h e = record { told = λ f. record { number = i; inside = h; word = e } }
 
-  pub within-next : getD inputs i 0 + 1 < length ws
-  within-next = w .each i h
+pub matched-no : {ws elements : List ℕ} {k : ℕ} → MatchedIf ws elements k false
+matched-no = record { told = λ e. false-true e }
+
+pub inside-at : {ws ats : List ℕ} {i : ℕ} → Inside ws ats → i < length ats → getD ats i 0 < length ws
+inside-at w h = w .each _ h
+
+-- ── An arc ──
+
+-- so many expressions take as many words or more
+several-long : (ws : List ℕ) (v n at : ℕ) (es : List Expression) (next : ℕ) → several n (readExpression ws v) at ≡ read es next → at ≤ length ws → at + n ≤ length ws
+unfolding several
+several-long ws v zero at es next h l = omega arith
+several-long ws v (suc n) at es next h l =
+    then-read (readExpression ws v at) _ es next h λ e mid r s.
+    then-read (several n (readExpression ws v) mid) _ es next s λ es′ end x y.
+    let a = expression-short ws v at r in
+    let k = a .later in
+    let q = several-long ws v n mid es′ end x (a .in-words) in
+    omega arith
+
+module _ {ws ps inputs elements : List ℕ} (w : Within ws ps inputs elements) where
+  arc-at : (k : ℕ) → k < length inputs → HasArc ws ps (w .variables) (getD inputs k 0)
+  arc-at k h = every-number (HasArc ws ps (w .variables)) inputs k 0 (w .arcs) h
+
+  pub inputs-inside : Inside ws inputs
+  inputs-inside = record { each = λ i h. parts (arc-at i h) .inside }
+
+  module _ {k : ℕ} (h : k < length inputs) where
+    pub coefficient-there : getD inputs k 0 + 1 < length ws
+    coefficient-there = let p = parts (arc-at k h) in let s = expression-short ws (w .variables) (getD inputs k 0 + 1) (p .coefficient) in omega arith
+
+    pub arc-there : getD inputs k 0 < length ws
+    arc-there = parts (arc-at k h) .inside
+
+    module _ {place : ℕ} (e : place ≡ payload (getD ws (getD inputs k 0) 0)) where
+      pub place-there : place < length ps
+      place-there = rw e (place-listed (arc-at k h))
+
+      pub place-word : PlacesFit ws ps → getD ps place 0 < length ws
+      place-word f = let i = place-inside f place-there in omega arith
+
+      -- the components stand behind a coefficient of one word
+      pub components-there : {width : ℕ} → width ≡ payload (getD ws (getD ps place 0) 0) → getD ws (getD inputs k 0 + 1) 0 ≡ 0x70000001 → getD inputs k 0 + 2 + width ≤ length ws
+      components-there {width} g o =
+          let p = parts (arc-at k h) in
+          let n = constant-alone ws (w .variables) (getD inputs k 0 + 1) (p .coefficient) (ap kind o) .1 in
+          let s = expression-short ws (w .variables) (getD inputs k 0 + 1) (p .coefficient) in
+          let q = several-long ws (w .variables) (widthAt ws (getD ps (placeOf ws (getD inputs k 0)) 0)) (p .mid) (arc-at k h .arc .components) (p .next) (components-read (arc-at k h)) (s .in-words) in
+          let d : width ≡ widthAt ws (getD ps (placeOf ws (getD inputs k 0)) 0) = g ∙ ap (λ (i : ℕ). payload (getD ws (getD ps i 0) 0)) e in
+          omega arith
 
 -- ── What is told ──
 
-pub spare-none : {ws inputs : List ℕ} {e : Element} {parts : List ℕ} {width : ℕ} → IsSpare ws inputs e parts width (length inputs)
-spare-none = record { matched = λ h. absurd (omega arith); spares = λ h. absurd (omega arith) }
+pub spares-no : {ws ps inputs elements : List ℕ} {k : ℕ} → SparesIf ws ps inputs elements k false
+spares-no = record { told = λ e. false-true e }
 
-pub spare-found : {ws inputs : List ℕ} {e : Element} {parts : List ℕ} {width k : ℕ} {t u : Bool} → e .sort ≡ Match k → getD ws (getD inputs k 0 + 1) 0 ≡ 0x70000001 → LoneIf parts width t → not t ≡ false → AloneIf ws inputs k u → not u ≡ false → IsSpare ws inputs e parts width k
-spare-found {t = t} {u} s o l f a g = record { matched = λ h. s; spares = λ h. record { one = o; lone = l .told (not-false t f); alone = a .told (not-false u g) } }
-
--- ── A list without a member ──
-
-module _ {A : Type 0} where
-  pub without-past : (l : List A) (k : ℕ) → length l ≤ k → without l k ≡ l
-  unfolding without
-  without-past [] k h = refl
-  without-past (x ∷ xs) zero h = absurd (omega arith)
-  without-past (x ∷ xs) (suc k) h = ap (λ (r : List A). x ∷ r) (without-past xs k (omega arith))
-
-  own : (l : List A) (k : ℕ) (a : A) → length l ≡ k → without (l ++ (a ∷ [])) k ≡ l
-  unfolding without
-  own [] zero a e = refl
-  own [] (suc k) a e = absurd (omega arith)
-  own (x ∷ xs) zero a e = absurd (omega arith)
-  own (x ∷ xs) (suc k) a e = ap (λ (r : List A). x ∷ r) (own xs k a (omega arith))
-
-  other : (l : List A) (k : ℕ) (a : A) → (length l ≡ k → ⊥) → without (l ++ (a ∷ [])) k ≡ without l k ++ (a ∷ [])
-  unfolding without
-  other [] zero a n = absurd (n refl)
-  other [] (suc k) a n = refl
-  other (x ∷ xs) zero a n = refl
-  other (x ∷ xs) (suc k) a n = ap (λ (r : List A). x ∷ r) (other xs k a (λ e. n (ap suc e)))
-
-  -- the members before it and those behind it
-  pub record Split (l : List A) (k : ℕ) (a : A) : Type 0 where
-    pub front : List A
-    pub rest : List A
-    pub whole : l ≡ front ++ (a ∷ rest)
-    pub others : without l k ≡ front ++ rest
-
-  pub split : (l : List A) (k : ℕ) (a : A) → getElem? l k ≡ some a → Split l k a
-  unfolding without
-  split [] k a h = none-some h
-  split (x ∷ xs) zero a h = let e : x ≡ a = cc in record { front = []; rest = xs; whole = ap (λ (y : A). y ∷ xs) e; others = refl }
-  split (x ∷ xs) (suc k) a h =
-      let s = split xs k a h in
-      record { front = x ∷ s .front; rest = s .rest; whole = ap (λ (r : List A). x ∷ r) (s .whole); others = ap (λ (r : List A). x ∷ r) (s .others) }
-
-pub without-map : {A B : Type 0} (f : A → B) (l : List A) (k : ℕ) → without (map f l) k ≡ map f (without l k)
-unfolding without
-without-map f [] k = refl
-without-map f (x ∷ xs) zero = refl
-without-map f (x ∷ xs) (suc k) = ap (λ r. f x ∷ r) (without-map f xs k)
+pub spares-yes : {ws ps inputs elements : List ℕ} {k place width : ℕ} {t u r : Bool} → place ≡ payload (getD ws (getD inputs k 0) 0) → width ≡ payload (getD ws (getD ps place 0) 0) → getD ws (getD inputs k 0 + 1) 0 ≡ 0x70000001 → LoneIf ws (getD inputs k 0 + 2) width t → not t ≡ false → AloneIf ws inputs k u → not u ≡ false → MatchedIf ws elements k r → SparesIf ws ps inputs elements k r
+spares-yes {ws} {ps} {inputs} {k = k} {t = t} {u} p w o l f a g m = record { told = λ e. record { one = o; lone = subst (AreLone ws (getD inputs k 0 + 2)) (w ∙ ap (λ (i : ℕ). payload (getD ws (getD ps i 0) 0)) p) (l .told (not-false t f)); alone = a .told (not-false u g); matched = m .told e } }
 
 -- ── The positions that were copied ──
 
--- of the first j positions all but the one of a number stand at the front
-pub record Left (inputs : List ℕ) (k : ℕ) (rest : List ℕ) (n j : ℕ) : Type 0 where
-  pub same : take n rest ≡ without (take j inputs) k
+-- one member more
+module _ {A : Type 0} where
+  kept-more : (bs : List Bool) (xs : List A) (x : A) → length bs ≡ length xs → kept (bs ++ (true ∷ [])) (xs ++ (x ∷ [])) ≡ kept bs xs ++ (x ∷ [])
+  unfolding kept
+  kept-more [] [] x e = refl
+  kept-more [] (y ∷ xs) x e = absurd (omega arith)
+  kept-more (b ∷ bs) [] x e = absurd (omega arith)
+  kept-more (true ∷ bs) (y ∷ xs) x e = ap (λ (l : List A). y ∷ l) (kept-more bs xs x (omega arith))
+  kept-more (false ∷ bs) (y ∷ xs) x e = kept-more bs xs x (omega arith)
+
+  kept-less : (bs : List Bool) (xs : List A) (x : A) → length bs ≡ length xs → kept (bs ++ (false ∷ [])) (xs ++ (x ∷ [])) ≡ kept bs xs
+  unfolding kept
+  kept-less [] [] x e = refl
+  kept-less [] (y ∷ xs) x e = absurd (omega arith)
+  kept-less (b ∷ bs) [] x e = absurd (omega arith)
+  kept-less (true ∷ bs) (y ∷ xs) x e = ap (λ (l : List A). y ∷ l) (kept-less bs xs x (omega arith))
+  kept-less (false ∷ bs) (y ∷ xs) x e = kept-less bs xs x (omega arith)
+
+module _ (P : ℕ → Type 0) where
+  out-more : (i : ℕ) (bs : List Bool) → LeftOut P i bs → LeftOut P i (bs ++ (true ∷ []))
+  out-more i [] h = tt
+  out-more i (true ∷ bs) h = out-more (suc i) bs h
+  out-more i (false ∷ bs) h = (h .0, out-more (suc i) bs (h .1))
+
+  out-less : (i : ℕ) (bs : List Bool) → LeftOut P i bs → P (length bs + i) → LeftOut P i (bs ++ (false ∷ []))
+  out-less i [] h p = (subst P (omega arith) p, tt)
+  out-less i (true ∷ bs) h p = out-less (suc i) bs h (subst P (omega arith) p)
+  out-less i (false ∷ bs) h p = (h .0, out-less (suc i) bs (h .1) (subst P (omega arith) p))
+
+  pub out-at : (i : ℕ) (bs : List Bool) → LeftOut P i bs → (j : ℕ) → getElem? bs j ≡ some false → P (j + i)
+  out-at i [] h j e = none-some e
+  out-at i (true ∷ bs) h zero e = false-true (cc)
+  out-at i (false ∷ bs) h zero e = subst P (omega arith) (h .0)
+  out-at i (true ∷ bs) h (suc j) e = subst P (omega arith) (out-at (suc i) bs h j e)
+  out-at i (false ∷ bs) h (suc j) e = subst P (omega arith) (out-at (suc i) bs (h .1) j e)
+
+-- of the first j positions those that are not spared stand at the front
+pub record Left (ws ps inputs elements rest : List ℕ) (n j : ℕ) : Type 0 where
+  pub mask : List Bool
+  pub wide : length mask ≡ j
+  pub same : take n rest ≡ kept mask (take j inputs)
+  pub spares : LeftOut (Spares ws ps inputs elements) 0 mask
   pub few : n ≤ j
   pub inside : j ≤ length inputs
   pub long : length rest ≡ 8
 
-pub left-start : {inputs : List ℕ} {k : ℕ} {rest : List ℕ} → length rest ≡ 8 → Left inputs k rest 0 0
-unfolding without
-left-start l = record { same = refl; few = omega arith; inside = omega arith; long = l }
+pub left-start : {ws ps inputs elements rest : List ℕ} → length rest ≡ 8 → Left ws ps inputs elements rest 0 0
+unfolding kept
+left-start l = record { mask = []; wide = refl; same = refl; spares = tt; few = omega arith; inside = omega arith; long = l }
 
-module _ {inputs : List ℕ} {k : ℕ} {rest : List ℕ} {n j : ℕ} (L : Left inputs k rest n j) (h : j < length inputs) where
-  far : length (take j inputs) ≡ j
-  far = let l = length-take j inputs in omega arith
+module _ {ws ps inputs elements rest : List ℕ} {n j : ℕ} (L : Left ws ps inputs elements rest n j) (h : j < length inputs) where
+  far : length (L .mask) ≡ length (take j inputs)
+  far = let l = length-take j inputs in let w = L .wide in omega arith
 
   one-more : take (j + 1) inputs ≡ take j inputs ++ (getD inputs j 0 ∷ [])
   one-more = ap (λ (i : ℕ). take i inputs) (add-one j) ∙ take-suc inputs j 0 h
 
-  pub left-own : j ≡ k → Left inputs k rest n (j + 1)
-  left-own e = record {
-    same = L .same ∙ without-past (take j inputs) k (omega (arith, far)) ∙ sym (ap (λ (r : List ℕ). without r k) one-more ∙ own (take j inputs) k (getD inputs j 0) (far ∙ e));
+  pub left-spared : {r : Bool} → SparesIf ws ps inputs elements j r → r ≡ true → Left ws ps inputs elements rest n (j + 1)
+  left-spared s e = record {
+    mask = L .mask ++ (false ∷ []);
+    wide = let l = length-append (L .mask) (false ∷ []) in let w = L .wide in omega arith;
+    same = L .same ∙ sym (ap (kept (L .mask ++ (false ∷ []))) one-more ∙ kept-less (L .mask) (take j inputs) (getD inputs j 0) far);
+    spares = out-less (Spares ws ps inputs elements) 0 (L .mask) (L .spares) (subst (Spares ws ps inputs elements) (let w = L .wide in omega arith) (s .told e));
     few = let f = L .few in omega arith;
     inside = omega arith;
     long = L .long;
@@ -152,15 +205,18 @@ module _ {inputs : List ℕ} {k : ℕ} {rest : List ℕ} {n j : ℕ} (L : Left i
   pub left-room : length inputs ≤ 8 → n < 8
   left-room m = let f = L .few in omega arith
 
-  pub left-turn : (j ≡ k → ⊥) → length inputs ≤ 8 → Left inputs k (set rest n (getD inputs j 0)) (n + 1) (j + 1)
-  left-turn d m = record {
-    same = take-set rest n (getD inputs j 0) (let l = L .long in let r = left-room m in omega arith) ∙ ap (λ (r : List ℕ). r ++ (getD inputs j 0 ∷ [])) (L .same) ∙ sym (ap (λ (r : List ℕ). without r k) one-more ∙ other (take j inputs) k (getD inputs j 0) (λ e. d (sym far ∙ e)));
+  pub left-turn : length inputs ≤ 8 → Left ws ps inputs elements (set rest n (getD inputs j 0)) (n + 1) (j + 1)
+  left-turn m = record {
+    mask = L .mask ++ (true ∷ []);
+    wide = let l = length-append (L .mask) (true ∷ []) in let w = L .wide in omega arith;
+    same = take-set rest n (getD inputs j 0) (let l = L .long in let r = left-room m in omega arith) ∙ ap (λ (r : List ℕ). r ++ (getD inputs j 0 ∷ [])) (L .same) ∙ sym (ap (kept (L .mask ++ (true ∷ []))) one-more ∙ kept-more (L .mask) (take j inputs) (getD inputs j 0) far);
+    spares = out-more (Spares ws ps inputs elements) 0 (L .mask) (L .spares);
     few = let f = L .few in omega arith;
     inside = omega arith;
     long = length-set rest n (getD inputs j 0) ∙ L .long;
   }
 
-pub left-end : {inputs : List ℕ} {k : ℕ} {rest : List ℕ} {n j : ℕ} → Left inputs k rest n j → length inputs ≤ j → length inputs ≤ 8 → IsRest inputs k rest n
-left-end {inputs} {k} {j = j} L h m = record { full = L .long; same = L .same ∙ ap (λ (r : List ℕ). without r k) (take-all j inputs h); few = let f = L .few in let i = L .inside in omega arith }
+pub left-end : {ws ps inputs elements rest : List ℕ} {n j : ℕ} → Left ws ps inputs elements rest n j → length inputs ≤ j → IsRest ws ps inputs elements rest n
+left-end {inputs = inputs} {j = j} L h = record { full = L .long; few = let f = L .few in let i = L .inside in omega arith; unspared = record { mask = L .mask; same = L .same ∙ ap (kept (L .mask)) (take-all j inputs h); spares = L .spares } }
 
-pub ruleset sparing = (needs, lone-start, lone-turn, lone-yes, lone-no, alone-start, alone-own, alone-turn, alone-yes, alone-no, within-arc, within-next, spare-none, spare-found, left-start, left-own, left-room, left-turn, left-end)
+pub ruleset sparing = (needs, lone-start, lone-turn, lone-yes, lone-no, alone-start, alone-own, alone-turn, alone-yes, alone-no, matched-yes, matched-no, inside-at, inputs-inside, coefficient-there, arc-there, place-there, place-word, components-there, spares-no, spares-yes, left-start, left-spared, left-room, left-turn, left-end)

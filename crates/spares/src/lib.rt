@@ -1,4 +1,4 @@
-// The input arc that leaves of a search need not look up.
+// The input arcs that leaves of a search need not look up.
 
-// Which arc it is, and the positions of the others.
+// Which arcs they are, and the positions of the others.
 pub mod spare;

@@ -1,16 +1,19 @@
--- `spares::spare::leave_out` meets its contract: each turn passes the position that is left out, or copies another.
+-- `spares::spare::leave_out` meets its contract: each turn passes an arc that is spared, or copies the position of another.
 use Prim.Native.Nat.{_-_}
 use native.Mathlib.Omega.{arith}
 use lib.ListN.{length}
-use Rattle.spares.proofs.Sparing.{Left, sparing}
+use Rattle.spares.proofs.Sparing.{sparing, Left}
 use Rattle.spares.proofs.spare.leave_out.Statement.{statement}
 use Rattle.spares.proofs.spare.leave_out.Tie as tie
 
 abbrev Inv-loop : tie.InvT-loop
-Inv-loop inputs k rest₀ n₀ j₀ rest n j = Left inputs k rest n j
+Inv-loop net places inputs elements rest₀ n₀ j₀ rest n j = Left net places inputs elements rest n j
 
 abbrev μ-loop : tie.MeasureT-loop
-μ-loop inputs k rest₀ n₀ j₀ rest n j = length inputs - j
+μ-loop net places inputs elements rest₀ n₀ j₀ rest n j = length inputs - j
+
+is-spared-requires : tie.Need-is-spared-requires Inv-loop μ-loop
+is-spared-requires c κs = let st = c .before .before .before .before .before .before in let h = c .loop-test .taken in let f = st .pre .1 .1 .0 in (st .pre .0, (st .pre .1 .0, (h, omega arith)))
 
 pub leave-out-spec : {M : Type 1} → statement M
 leave-out-spec =
@@ -19,6 +22,7 @@ leave-out-spec =
     Inv-loop
     μ-loop
     (λ c. search sparing)
+    is-spared-requires
     (λ c. search sparing)
     (λ c. omega arith)
     (λ c. search sparing)
