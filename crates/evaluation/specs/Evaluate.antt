@@ -1,10 +1,10 @@
 -- An expression evaluated where it stands: the value of its tree under a binding of lent words. That it stands there is a fact of an accepted net.
--- Rests on semantics/specs/ReadNet, numbers/specs/Number and expression/specs/Head.
+-- Rests on semantics/specs/ReadNet and numbers/specs/Number.
 use mathlib.Core.Path.{_≡_}
 use mathlib.Core.Bool.{_&&_}
 use mathlib.Core.List.{List}
 use mathlib.Core.Option.{Option, none, some, bind}
-use Prim.Native.Nat.{ℕ, _+_, _<_}
+use Prim.Native.Nat.{ℕ, _<_}
 use lib.Dec.{eqb}
 use lib.IntN.{ℤ}
 use lib.ListN.{length, getElem?}
@@ -18,7 +18,6 @@ use Rattle.numbers.specs.Number.{number}
 use Rattle.evaluation.specs.declared.evaluate.Evaluated.{Evaluated}
 use Rattle.evaluation.specs.declared.evaluate.Evaluated.the-variants.{Value, NoValue}
 use Rattle.evaluation.specs.declared.evaluate.Outcome.{Outcome}
-use Rattle.expression.specs.Head.{Onward}
 
 -- "VALUE: 0-13 value": the value of a VALUE word
 abbrev pub valueOf : ℕ → Option ℤ
@@ -42,26 +41,26 @@ abbrev pub evaluatedFrom : Environment → Reading Expression → Valuation
 evaluatedFrom env (read e next) = valued (value houseTable env e) next
 evaluatedFrom env (refused n p) = unread
 
--- ── With the words left ──
+-- ── An expression and its operands ──
 
--- an expression of at most so many words stands at a position
-pub record Stands (ws : List ℕ) (v at left : ℕ) : Type 0 where
+-- an expression stands at a position: some number of rounds reads it, before some position
+pub record Stands (ws : List ℕ) (v at : ℕ) : Type 0 where
   pub rounds : ℕ
-  pub enough : left < rounds
+  pub stop : ℕ
   pub tree : Expression
   pub next : ℕ
-  pub reads : expressionIn rounds ws v (at + left) at ≡ read tree next
+  pub reads : expressionIn rounds ws v stop at ≡ read tree next
 
 -- two of them, one after the other
-pub record StandTwo (ws : List ℕ) (v at left : ℕ) : Type 0 where
+pub record StandTwo (ws : List ℕ) (v at : ℕ) : Type 0 where
   pub rounds : ℕ
-  pub enough : left < rounds
+  pub stop : ℕ
   pub first : Expression
   pub mid : ℕ
   pub second : Expression
   pub next : ℕ
-  pub reads-first : expressionIn rounds ws v (at + left) at ≡ read first mid
-  pub reads-second : expressionIn rounds ws v (at + left) mid ≡ read second next
+  pub reads-first : expressionIn rounds ws v stop at ≡ read first mid
+  pub reads-second : expressionIn rounds ws v stop mid ≡ read second next
 
 -- the value that an outcome has, if any
 abbrev pub outcomeValue : Outcome → Option ℤ
@@ -75,22 +74,25 @@ pub record IsValueIn (r : Outcome) (x : Number) : Type 0 where
   pub same : number x ≡ outcomeValue r
 
 -- an outcome made of a value that may be missing
-pub record Made (x : Number) (next left : ℕ) (r : Outcome) : Type 0 where
+pub record Made (x : Number) (next : ℕ) (r : Outcome) : Type 0 where
   pub value : outcomeValue r ≡ number x
   pub next-is : r .next ≡ next
-  pub left-is : r .left ≡ left
 
--- the value of the reading by any number of rounds above the words left
-pub record IsOutcome (ws bs : List ℕ) (at left : ℕ) (r : Outcome) : Type 0 where
-  pub same : (rounds stop : ℕ) → left < rounds → at + left ≡ stop → outcome r ≡ evaluatedFrom (lent bs) (expressionIn rounds ws (length bs) stop at)
-  pub onward : Onward ws at left (r .next) (r .left)
+-- an outcome is the value of the tree that is read, if one is, and the position after it
+abbrev pub Tells : List ℕ → Outcome → Reading Expression → Type 0
+Tells bs r x = (tree : Expression) (next : ℕ) → x ≡ read tree next → outcome r ≡ valued (value houseTable (lent bs) tree) next
+
+-- of the reading at a position, by any number of rounds and before any position
+pub record IsOutcome (ws bs : List ℕ) (at : ℕ) (r : Outcome) : Type 0 where
+  pub same : (rounds stop : ℕ) → Tells bs r (expressionIn rounds ws (length bs) stop at)
+  pub later : at < r .next
 
 -- the same of what follows an operator: two operands
-pub record IsTwo (ws bs : List ℕ) (k at left : ℕ) (r : Outcome) : Type 0 where
-  pub same : (rounds stop : ℕ) → left < rounds → at + left ≡ stop → outcome r ≡ evaluatedFrom (lent bs) (operands (expressionIn rounds ws (length bs) stop) (binaryHead (operatorOf k)) at)
-  pub onward : Onward ws at left (r .next) (r .left)
+pub record IsTwo (ws bs : List ℕ) (k at : ℕ) (r : Outcome) : Type 0 where
+  pub same : (rounds stop : ℕ) → Tells bs r (operands (expressionIn rounds ws (length bs) stop) (binaryHead (operatorOf k)) at)
+  pub later : at < r .next
 
 -- and of what follows a load: one
-pub record IsLoaded (ws bs : List ℕ) (at left : ℕ) (r : Outcome) : Type 0 where
-  pub same : (rounds stop : ℕ) → left < rounds → at + left ≡ stop → outcome r ≡ evaluatedFrom (lent bs) (operands (expressionIn rounds ws (length bs) stop) loadHead at)
-  pub onward : Onward ws at left (r .next) (r .left)
+pub record IsLoaded (ws bs : List ℕ) (at : ℕ) (r : Outcome) : Type 0 where
+  pub same : (rounds stop : ℕ) → Tells bs r (operands (expressionIn rounds ws (length bs) stop) loadHead at)
+  pub later : at < r .next

@@ -1,5 +1,4 @@
 // The value of an expression under lent binding words, and where it ends. Rests on the crates word and numbers.
-use expression::head::MOST_EXPRESSION_WORDS;
 use numbers::number::Number;
 use numbers::number::apply_load;
 use numbers::number::operate;
@@ -30,31 +29,28 @@ pub fn value_of(w: u32) -> Number
     }
 }
 
-// The value of an expression, if there is some, the position after it and the words left. The value is told by two fields and not by an enum, whose bytes
-// would be stored one by one and loaded together, for which the processor waits.
+// The value of an expression, if there is some, and the position after it. The value is told by two fields and not by an enum, whose bytes would be stored
+// one by one and loaded together, for which the processor waits.
 struct Outcome {
     some: bool,
     z: i32,
     next: usize,
-    left: usize,
 }
 
 // Tells a value that may be missing by the two fields.
-fn outcome_of(x: Number, next: usize, left: usize) -> Outcome
-    ensures { λ r. ⌜ Made x next left r ⌝ }
+fn outcome_of(x: Number, next: usize) -> Outcome
+    ensures { λ r. ⌜ Made x next r ⌝ }
 {
     match x {
         Number::Some(z) => Outcome {
             some: true,
             z: z,
             next: next,
-            left: left,
         },
         Number::None => Outcome {
             some: false,
             z: 0,
             next: next,
-            left: left,
         },
     }
 }
@@ -69,10 +65,10 @@ fn value_in(a: Outcome) -> Number
     Number::None
 }
 
-// Evaluates the expression at a position, which takes at most `left` words.
-fn evaluate_within(words: &[u32], binding: &[u32], at: usize, left: usize) -> Outcome
-    requires { ⌜ Stands (now words) (length (now binding)) at left ⌝ }
-    ensures { λ r. ⌜ IsOutcome (now (words .entry)) (now (binding .entry)) at left r ⌝ }
+// Evaluates the expression that stands at a position.
+fn evaluate_within(words: &[u32], binding: &[u32], at: usize) -> Outcome
+    requires { ⌜ Stands (now words) (length (now binding)) at ⌝ }
+    ensures { λ r. ⌜ IsOutcome (now (words .entry)) (now (binding .entry)) at r ⌝ }
 {
     let w = words[at];
     let rest = payload(w);
@@ -81,38 +77,34 @@ fn evaluate_within(words: &[u32], binding: &[u32], at: usize, left: usize) -> Ou
             some: true,
             z: signed(w),
             next: at + 1,
-            left: left - 1,
         },
-        8 => outcome_of(value_of(binding[rest as usize]), at + 1, left - 1),
+        8 => outcome_of(value_of(binding[rest as usize]), at + 1),
         9 => match rest {
-            0..=3 => evaluate_two(words, binding, rest, at + 1, left - 1),
-            4 => evaluate_load(words, binding, at + 1, left - 1),
+            0..=3 => evaluate_two(words, binding, rest, at + 1),
+            4 => evaluate_load(words, binding, at + 1),
             _ => Outcome {
                 some: false,
                 z: 0,
                 next: at,
-                left: left,
             },
         },
         0..=6 | 10..=15 => Outcome {
             some: false,
             z: 0,
             next: at,
-            left: left,
         },
         _ => Outcome {
             some: false,
             z: 0,
             next: at,
-            left: left,
         },
     }
 }
 
 // The same of an operand. A constant or a lone variable, the common case, is told from its word: so short a path goes into the function that operates.
-fn evaluate_operand(words: &[u32], binding: &[u32], at: usize, left: usize) -> Outcome
-    requires { ⌜ Stands (now words) (length (now binding)) at left ⌝ }
-    ensures { λ r. ⌜ IsOutcome (now (words .entry)) (now (binding .entry)) at left r ⌝ }
+fn evaluate_operand(words: &[u32], binding: &[u32], at: usize) -> Outcome
+    requires { ⌜ Stands (now words) (length (now binding)) at ⌝ }
+    ensures { λ r. ⌜ IsOutcome (now (words .entry)) (now (binding .entry)) at r ⌝ }
 {
     let w = words[at];
     let rest = payload(w);
@@ -121,31 +113,30 @@ fn evaluate_operand(words: &[u32], binding: &[u32], at: usize, left: usize) -> O
             some: true,
             z: signed(w),
             next: at + 1,
-            left: left - 1,
         },
-        8 => outcome_of(value_of(binding[rest as usize]), at + 1, left - 1),
-        0..=6 | 9..=15 => evaluate_within(words, binding, at, left),
-        _ => evaluate_within(words, binding, at, left),
+        8 => outcome_of(value_of(binding[rest as usize]), at + 1),
+        0..=6 | 9..=15 => evaluate_within(words, binding, at),
+        _ => evaluate_within(words, binding, at),
     }
 }
 
-// The operator of a code on the two expressions at a position, which take at most `left` words.
-fn evaluate_two(words: &[u32], binding: &[u32], code: u32, at: usize, left: usize) -> Outcome
-    requires { ⌜ StandTwo (now words) (length (now binding)) at left ⌝ }
-    ensures { λ r. ⌜ IsTwo (now (words .entry)) (now (binding .entry)) code at left r ⌝ }
+// The operator of a code on the two expressions that stand at a position.
+fn evaluate_two(words: &[u32], binding: &[u32], code: u32, at: usize) -> Outcome
+    requires { ⌜ StandTwo (now words) (length (now binding)) at ⌝ }
+    ensures { λ r. ⌜ IsTwo (now (words .entry)) (now (binding .entry)) code at r ⌝ }
 {
-    let a = evaluate_operand(words, binding, at, left);
-    let b = evaluate_operand(words, binding, a.next, a.left);
-    outcome_of(operate(code, value_in(a), value_in(b)), b.next, b.left)
+    let a = evaluate_operand(words, binding, at);
+    let b = evaluate_operand(words, binding, a.next);
+    outcome_of(operate(code, value_in(a), value_in(b)), b.next)
 }
 
-// The load at the depth that the expression at a position tells, which takes at most `left` words.
-fn evaluate_load(words: &[u32], binding: &[u32], at: usize, left: usize) -> Outcome
-    requires { ⌜ Stands (now words) (length (now binding)) at left ⌝ }
-    ensures { λ r. ⌜ IsLoaded (now (words .entry)) (now (binding .entry)) at left r ⌝ }
+// The load at the depth that the expression at a position tells.
+fn evaluate_load(words: &[u32], binding: &[u32], at: usize) -> Outcome
+    requires { ⌜ Stands (now words) (length (now binding)) at ⌝ }
+    ensures { λ r. ⌜ IsLoaded (now (words .entry)) (now (binding .entry)) at r ⌝ }
 {
-    let a = evaluate_within(words, binding, at, left);
-    outcome_of(apply_load(value_in(a)), a.next, a.left)
+    let a = evaluate_within(words, binding, at);
+    outcome_of(apply_load(value_in(a)), a.next)
 }
 
 // The value of an expression and the position after it; or no value, and that position.
@@ -159,7 +150,7 @@ fn evaluate_any(words: &[u32], binding: &[u32], at: usize) -> Evaluated
     requires { ⌜ HasExpression (now words) (length (now binding)) at ⌝ }
     ensures { λ r. ⌜ evaluated r ≡ evaluatedFrom (lent (now (binding .entry))) (readExpression (now (words .entry)) (length (now (binding .entry))) at) ⌝ }
 {
-    let a = evaluate_within(words, binding, at, MOST_EXPRESSION_WORDS);
+    let a = evaluate_within(words, binding, at);
     if a.some {
         return Evaluated::Value(a.z, a.next);
     }

@@ -1,7 +1,9 @@
--- The proof of the cycle of calls {evaluate_load, evaluate_operand, evaluate_two, evaluate_within}. The measure is three times the words left, one more for
--- an operand and two more behind an operator, whose operands are evaluated with all words left. Each arm is a rule of `Evaluating`.
-use Prim.Native.Nat.{ℕ, _+_, _*_, _<_}
+-- The proof of the cycle of calls {evaluate_load, evaluate_operand, evaluate_two, evaluate_within}. The measure is three times the number of
+-- words from the position on, one more for an operand and two more behind an operator, where the first operand begins at the same position. Each arm is a
+-- rule of `Evaluating`.
+use Prim.Native.Nat.{ℕ, _+_, _*_, _-_, _<_}
 use borrow.Fn.Kinds.{In}
+use lib.ListN.{length}
 use borrow.Fn.PlainCycle.{Measures, is, falls, and}
 use Rattle.evaluation.proofs.Evaluating.{evaluating, operating}
 use Rattle.numbers.proofs.number.apply_load.Reads as apply-load
@@ -30,16 +32,16 @@ use Rattle.evaluation.proofs.evaluate.+evaluate_load+evaluate_operand+e
 -- ── Measures ──
 
 abbrev μ-load : Measures 2 load-kinds.ps ℕ
-μ-load κs a = 3 * a .1 .1 .1 .0 + 2
+μ-load κs a = 3 * (length (a .0 .now) - a .1 .1 .0) + 2
 
 abbrev μ-operand : Measures 2 operand-kinds.ps ℕ
-μ-operand κs a = 3 * a .1 .1 .1 .0 + 1
+μ-operand κs a = 3 * (length (a .0 .now) - a .1 .1 .0) + 1
 
 abbrev μ-two : Measures 2 two-kinds.ps ℕ
-μ-two κs a = 3 * a .1 .1 .1 .1 .0 + 2
+μ-two κs a = 3 * (length (a .0 .now) - a .1 .1 .1 .0) + 2
 
 abbrev μ-within : Measures 2 within-kinds.ps ℕ
-μ-within κs a = 3 * a .1 .1 .1 .0
+μ-within κs a = 3 * (length (a .0 .now) - a .1 .1 .0)
 
 -- ── What a function is given at the measure t, and what is asked of it below t ──
 
@@ -94,8 +96,6 @@ pub +evaluate-load+evaluate-operand+evaluate-two+evaluate-within-spec : {M : Typ
     (λ c. search evaluating)
     (λ c. search evaluating)
     (λ c. search evaluating)
-    (λ c. search evaluating)
-    (λ c. search evaluating)
     (λ c. search evaluating))
     (λ t. two-lts.spec (operand-below t, operand.Post, value-in.Asked, value-in.Learnt, operate.Asked, operate.Learnt, outcome-of.Asked, outcome-of.Learnt) (two-at t) two.Post
     (λ c. search operating)
@@ -106,10 +106,6 @@ pub +evaluate-load+evaluate-operand+evaluate-two+evaluate-within-spec : {M : Typ
     (λ c. search operating)
     (λ c. search operating))
     λ t. within-lts.spec (payload.Asked, payload.Learnt, kind.Asked, kind.Learnt, signed.Asked, signed.Learnt, value-of.Asked, value-of.Learnt, outcome-of.Asked, outcome-of.Learnt, load-below t, load.Post, two-below t, two.Post) (within-at t) within.Post
-    (λ c. search evaluating)
-    (λ c. search evaluating)
-    (λ c. search evaluating)
-    (λ c. search evaluating)
     (λ c. search evaluating)
     (λ c. search evaluating)
     (λ c. search evaluating)

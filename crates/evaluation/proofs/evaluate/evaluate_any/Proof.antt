@@ -1,4 +1,4 @@
--- `evaluation::evaluate::evaluate_any` meets its contract: sixteen rounds are more than the fifteen words left.
+-- `evaluation::evaluate::evaluate_any` meets its contract: what `evaluate_within` answers.
 use Rattle.evaluation.proofs.Single.{outcomes}
 use Rattle.evaluation.proofs.evaluate.evaluate_any.Statement.{statement}
 use Rattle.evaluation.proofs.evaluate.evaluate_any.Tie as tie
