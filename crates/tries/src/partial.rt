@@ -22,14 +22,17 @@ pub fn save(slots: &[u32], saved: &mut [u32; 8])
     }
 }
 
-// Puts the words back that were kept.
+// Puts the words back that were kept. A word is stored only where it differs, since a plain copy becomes a call that takes longer than so few words.
 pub fn restore(slots: &mut [u32], saved: &[u32; 8])
     requires { ⌜ (length (now slots) ≤ 8) × (length (now saved) ≡ 8) ⌝ }
     ensures { λ r. ⌜ now (slots .exit) ≡ take (length (now (slots .entry))) (now (saved .entry)) ⌝ }
 {
     let mut i = 0;
     while i < slots.len() {
-        slots[i] = saved[i];
+        let w = saved[i];
+        if slots[i] != w {
+            slots[i] = w;
+        }
         i += 1;
     }
 }
