@@ -6,7 +6,7 @@ use mathlib.Core.Logic.{_⊎_, inl, inr}
 use mathlib.Core.Bool.{Bool, true, false, cond, not, and-false}
 use mathlib.Core.List.{List, [], _∷_, _++_, append-nil, append-assoc}
 use borrow.Author.Needs.{needs}
-use borrow.Author.Tests.{leb-true, leb-false, lt-leb, le-leb, lt-ltb, le-ltb, ltb-true, ne-eqb, eq-eqb, eqb-true, eqb-false, not-true, not-false}
+use borrow.Author.Tests.{leb-true, leb-false, lt-leb, le-leb, lt-ltb, le-ltb, ltb-true, ltb-false, ne-eqb, eq-eqb, eqb-true, eqb-false, not-true, not-false}
 use native.Mathlib.Omega.{arith}
 use lib.Dec.{leb, ltb, eqb}
 use lib.IntN.{ℤ, pos}
@@ -113,6 +113,14 @@ nothing-before y ys = refl
 pub place-after : (e : Entry) (p : ℕ) → p ≤ e .place → before (key (e .place) (e .colour)) (pos p ∷ []) ≡ false
 unfolding before
 place-after e p h = rw (le-ltb (e .place) p h, before-nothing (e .colour)) (and-false (sameInteger (pos (e .place)) (pos p)))
+
+-- whether an entry stands before a place's first is told by the places alone
+pub place-order : (e : Entry) (p : ℕ) → before (key (e .place) (e .colour)) (pos p ∷ []) ≡ ltb (e .place) p
+place-order e p = by (either (ltb (e .place) p))
+  where
+    by : (ltb (e .place) p ≡ true) ⊎ (ltb (e .place) p ≡ false) → before (key (e .place) (e .colour)) (pos p ∷ []) ≡ ltb (e .place) p
+    by (inl t) = place-before e p (ltb-true (e .place) p t) ∙ sym t
+    by (inr t) = place-after e p (ltb-false (e .place) p t) ∙ sym t
 
 -- all entries stand before the first of a greater place
 begin-size : (es : List Entry) (place p : ℕ) → Every (λ (e : Entry). e .place ≤ place) es → place < p → beginOf es p ≡ sizeOf es

@@ -4,12 +4,12 @@
 -- along the words: entries before a change are the words up to where it stands.
 use mathlib.Core.Path.{_≡_, refl, sym, ap, _∙_, subst, fun-ext}
 use mathlib.Core.Logic.{_⊎_, inl, inr}
-use mathlib.Core.Bool.{true, false, cond, _&&_}
+use mathlib.Core.Bool.{Bool, true, false, cond, _&&_}
 use mathlib.Core.List.{List, [], _∷_, _++_, flatMap, append-assoc, List·Memᴰ, List·Memᴰ·head, List·Memᴰ·tail, List·Memᴰ·not-nil, List·Memᴰ·cases-cons, List·Memᴰ·append-cases, Memᴰ·append-left, Memᴰ·append-right, Memᴰ·cast}
 use Prim.Native.Nat.{ℕ, zero, suc, _+_, _-_, _≤_}
 use native.Mathlib.Omega.{arith}
 use borrow.Author.Tests.{eqb-true, ne-eqb}
-use lib.Dec.{eqb}
+use lib.Dec.{eqb, ltb}
 use lib.IntN.{ℤ}
 use lib.ListN.{length, take, drop, length-append, length-map, length-drop}
 use lib.Seq.{slice, slice-empty, length-slice, take-append-add}
@@ -23,12 +23,13 @@ use Rattle.semantics.proofs.Tests.{either, and-left, and-right, cond-false, tup
 use Rattle.semantics.proofs.Order.{before-trans, before-total, before-unlike, before-same, before-once, rising-append}
 use Rattle.semantics.proofs.Tuples.{flatMap-append}
 use Rattle.semantics.proofs.Spans.{drop-after}
-use Rattle.semantics.proofs.Entries.{entryKey, entry-path, wordsOfEntry, wordsOf, Good, counts-some, counts-member, entryOf, entryOf-words, entryOf-in, in-entryOf, entryOf-rises, entriesOf-words, entries-again}
+use Rattle.semantics.proofs.Entries.{entryKey, entry-path, wordsOfEntry, wordsOf, Good, counts-some, counts-member, entryOf, entryOf-words, entryOf-in, in-entryOf, entryOf-rises, entriesOf, entriesOf-words, entries-again}
 use Rattle.semantics.proofs.ReadEntries.{Accepted, whole-words}
 use Rattle.word.proofs.Slices.{slice-from}
-use Rattle.marking.specs.Marked.{markingRead, positionOf}
+use Rattle.marking.specs.Marked.{markingRead, positionOf, beginOf}
 use Rattle.marking.proofs.Counted.{entries-accepted}
-use Rattle.patch.specs.Patch.{Change, changeKey, patched, oldLength, newLength, Told, Untouched, Changing, Apart, InOrder}
+use Rattle.marking.proofs.Rising.{place-order}
+use Rattle.patch.specs.Patch.{Change, changeKey, patched, oldLength, newLength, oldBelow, newBelow, Told, Untouched, Changing, Apart, InOrder}
 
 -- ── Parts of the words ──
 
@@ -64,6 +65,18 @@ position-after : (es : List Entry) (k : List ℤ) → After k es → positionOf 
 unfolding positionOf
 position-after [] k a = refl
 position-after (e ∷ es) k a = rw (before-once k (entryKey e) (a .0), position-after es k (a .1))
+
+cond-none : (b : Bool) → _≡_ {A = ℕ} (cond b 0 0) 0
+cond-none true = refl
+cond-none false = refl
+
+cond-sum : (b : Bool) (m n : ℕ) → cond b (m + n) 0 ≡ cond b m 0 + cond b n 0
+cond-sum true m n = refl
+cond-sum false m n = refl
+
+-- a change that no entry has moves nothing
+none-moves : (es : List Entry) (t : Change) → t .old ≡ 0 → (p : ℕ) → beginOf es p ≡ cond (ltb (t .place) p) (t .old) 0 + beginOf es p
+none-moves es t o p = rw (o, cond-none (ltb (t .place) p)) (omega arith)
 
 counts-none : (es : List Entry) (p : ℕ) (c : List ℤ) → ((e : Entry) → List·Memᴰ e es → entryKey e ≡ key p c → ⊥) → countsOf es p c ≡ 0
 counts-none es p c f = by (countsOf es p c) refl
@@ -160,6 +173,25 @@ front-rises p c n es a r =
     let h = entryOf-in p c n x i in
     rw (h .0, h .1) (Every-at (λ (e : Entry). before (key p c) (entryKey e) ≡ true) a j)
 
+-- where places begin behind an entry
+begin-entry : (e : Entry) (es : List Entry) (p : ℕ) → beginOf (e ∷ es) p ≡ cond (ltb (e .place) p) (1 + length (e .colour)) 0 + beginOf es p
+unfolding positionOf
+begin-entry e es p = rw (place-order e p)
+
+begin-entries : (q : ℕ) (xs es : List Entry) (p : ℕ) → Every (λ (x : Entry). x .place ≡ q) xs → beginOf (xs ++ es) p ≡ cond (ltb q p) (length (wordsOf xs)) 0 + beginOf es p
+unfolding flatMap
+begin-entries q [] es p a = rw (cond-none (ltb q p)) (omega arith)
+begin-entries q (x ∷ xs) es p a =
+    let l : length (wordsOf (x ∷ xs)) ≡ 1 + length (x .colour) + length (wordsOf xs) = length-append (wordsOfEntry x) (wordsOf xs) ∙ ap (λ (n : ℕ). n + length (wordsOf xs)) (size x) in
+    let s = cond-sum (ltb q p) (1 + length (x .colour)) (length (wordsOf xs)) in
+    let i = begin-entries q xs es p (a .1) in
+    begin-entry x (xs ++ es) p
+    ∙ ap (λ (n : ℕ). cond (ltb n p) (1 + length (x .colour)) 0 + beginOf (xs ++ es) p) (a .0)
+    ∙ rw l (omega arith)
+
+front-begin : (q : ℕ) (c : List ℤ) (n : ℕ) (es : List Entry) (p : ℕ) → beginOf (entryOf q c n ++ es) p ≡ cond (ltb q p) (length (entryWords q c n)) 0 + beginOf es p
+front-begin q c n es p = begin-entries q (entryOf q c n) es p (Every-of (λ (x : Entry). x .place ≡ q) (entryOf q c n) (λ x i. entryOf-in q c n x i .0)) ∙ ap (λ (l : List ℕ). cond (ltb q p) (length l) 0 + beginOf es p) (entryOf-words q c n)
+
 -- an entry that no change touches, or the new one of a change
 data From (es : List Entry) (ts : List Change) (e : Entry) : Type 0 where
   kept : List·Memᴰ e es → Untouched ts (entryKey e) → From es ts e
@@ -177,9 +209,10 @@ record Merged (ws : List ℕ) (src : ℕ) (es : List Entry) (ts : List Change) :
   forth : (e : Entry) → List·Memᴰ e entries → From es ts e
   back : (e : Entry) → From es ts e → List·Memᴰ e entries
   apart : Apart (length ws) src ts
+  moved : (p : ℕ) → beginOf entries p + oldBelow p ts ≡ beginOf es p + newBelow p ts
 
 merged-none : {ws : List ℕ} {src : ℕ} {es : List Entry} → Rest ws src es [] → Merged ws src es []
-unfolding patched
+unfolding patched oldBelow newBelow
 merged-none {es = es} r =
     let w = r .whole in
     record {
@@ -189,6 +222,7 @@ merged-none {es = es} r =
       forth = λ e i. kept i (λ t j q. List·Memᴰ·not-nil j);
       back = back;
       apart = omega arith;
+      moved = λ p. refl;
     }
   where
     back : (e : Entry) → From es [] e → List·Memᴰ e es
@@ -197,7 +231,7 @@ merged-none {es = es} r =
 
 -- an entry before all changes stays
 merged-past : {ws : List ℕ} {src : ℕ} {e : Entry} {es : List Entry} {t : Change} {ts : List Change} → Rest ws src (e ∷ es) (t ∷ ts) → AfterAll (entryKey e) (t ∷ ts) → Merged ws (src + length (wordsOfEntry e)) es (t ∷ ts) → Merged ws src (e ∷ es) (t ∷ ts)
-unfolding patched flatMap
+unfolding patched flatMap positionOf
 merged-past {ws} {src} {e} {es} {t} {ts} r a m =
     let w = r .whole in
     let l = length-append (wordsOfEntry e) (wordsOf es) in
@@ -209,6 +243,7 @@ merged-past {ws} {src} {e} {es} {t} {ts} r a m =
       forth = λ d i. forth d (List·Memᴰ·cases-cons i);
       back = back;
       apart = (omega arith, m .apart .1, m .apart .2);
+      moved = λ p. let i = m .moved p in omega arith;
     }
   where
     later : List ℕ
@@ -231,15 +266,16 @@ merged-past {ws} {src} {e} {es} {t} {ts} r a m =
     back d (set s i q n o) = List·Memᴰ·tail (m .back d (set s i q n o))
 
 -- a change before all entries but its own, `own` being those with it
-merged-set : {ws : List ℕ} (src : ℕ) (own : List Entry) {es : List Entry} (t : Change) {ts : List Change} → t .at ≡ src → t .at + t .old ≤ length ws → After (changeKey t) es → AfterAll (changeKey t) ts → ((e : Entry) → List·Memᴰ e es → List·Memᴰ e own) → ((e : Entry) → List·Memᴰ e own → (entryKey e ≡ changeKey t) ⊎ List·Memᴰ e es) → Merged ws (t .at + t .old) es ts → Merged ws src own (t ∷ ts)
-unfolding patched
-merged-set {ws} src own {es} t {ts} h o a b f g m = record {
+merged-set : {ws : List ℕ} (src : ℕ) (own : List Entry) {es : List Entry} (t : Change) {ts : List Change} → t .at ≡ src → t .at + t .old ≤ length ws → After (changeKey t) es → AfterAll (changeKey t) ts → ((e : Entry) → List·Memᴰ e es → List·Memᴰ e own) → ((e : Entry) → List·Memᴰ e own → (entryKey e ≡ changeKey t) ⊎ List·Memᴰ e es) → ((p : ℕ) → beginOf own p ≡ cond (ltb (t .place) p) (t .old) 0 + beginOf es p) → Merged ws (t .at + t .old) es ts → Merged ws src own (t ∷ ts)
+unfolding patched oldBelow newBelow
+merged-set {ws} src own {es} t {ts} h o a b f g d m = record {
   entries = entryOf (t .place) (t .colour) (t .count) ++ m .entries;
   spelled = ap (λ (x : List ℕ). x ++ (entryWords (t .place) (t .colour) (t .count) ++ patched ws (t .at + t .old) ts)) nothing ∙ ap (λ (x : List ℕ). entryWords (t .place) (t .colour) (t .count) ++ x) (m .spelled) ∙ front-words (t .place) (t .colour) (t .count) (m .entries);
   rises = front-rises (t .place) (t .colour) (t .count) (m .entries) (Every-of (λ (d : Entry). before (changeKey t) (entryKey d) ≡ true) (m .entries) (λ d i. from-after (changeKey t) es ts d a b (m .forth d i))) (m .rises);
   forth = λ d i. forth d (List·Memᴰ·append-cases (entryOf (t .place) (t .colour) (t .count)) i);
   back = back;
   apart = (omega arith, o, m .apart);
+  moved = λ p. let i = m .moved p in let j = d p in let k = front-begin (t .place) (t .colour) (t .count) (m .entries) p in omega arith;
 }
   where
     nothing : slice src (t .at) ws ≡ []
@@ -285,7 +321,7 @@ walk ws t ts f [] src r =
     let j = p .1 in
     let w = r .whole in
     let e : src ≡ t .at + t .old = omega arith in
-    merged-set src [] t (p .0) (omega arith) tt (r .rising .0) (λ e k. k) (λ e k. inr k) (subst (λ (s : ℕ). Merged ws s [] ts) e (f src [] (rest-taken r)))
+    merged-set src [] t (p .0) (omega arith) tt (r .rising .0) (λ e k. k) (λ e k. inr k) (none-moves [] t j) (subst (λ (s : ℕ). Merged ws s [] ts) e (f src [] (rest-taken r)))
 walk ws t ts f (e ∷ es) src r = by (walk ws t ts f es) (before-total (entryKey e) (changeKey t))
   where
     total : length (wordsOf (e ∷ es)) ≡ length (wordsOfEntry e) + length (wordsOf es)
@@ -294,6 +330,9 @@ walk ws t ts f (e ∷ es) src r = by (walk ws t ts f es) (before-total (entryKey
     own : entryKey e ≡ changeKey t → (d : Entry) → (d ≡ e) ⊎ List·Memᴰ d es → (entryKey d ≡ changeKey t) ⊎ List·Memᴰ d es
     own q d (inl k) = inl (ap entryKey k ∙ q)
     own q d (inr k) = inr k
+
+    own-moves : entryKey e ≡ changeKey t → t .old ≡ length (wordsOfEntry e) → (p : ℕ) → beginOf (e ∷ es) p ≡ cond (ltb (t .place) p) (t .old) 0 + beginOf es p
+    own-moves q o p = let x : e .place ≡ t .place = cc q in rw (begin-entry e es p, x, o ∙ size e)
 
     by : ((src : ℕ) → Rest ws src es (t ∷ ts) → Merged ws src es (t ∷ ts)) → (before (entryKey e) (changeKey t) ≡ true) ⊎ ((entryKey e ≡ changeKey t) ⊎ (before (changeKey t) (entryKey e) ≡ true)) → Merged ws src (e ∷ es) (t ∷ ts)
     by g (inl b) =
@@ -308,7 +347,7 @@ walk ws t ts f (e ∷ es) src r = by (walk ws t ts f es) (before-total (entryKey
         let a : AfterAll (entryKey e) ts = subst (λ (k : List ℤ). AfterAll k ts) (sym q) (r .rising .0) in
         let h : After (changeKey t) es = subst (λ (k : List ℤ). After k es) q (r .rises .0) in
         let z : src + length (wordsOfEntry e) ≡ t .at + t .old = omega arith in
-        merged-set src (e ∷ es) t (p .0) (omega arith) h (r .rising .0) (λ d k. List·Memᴰ·tail k) (λ d k. own q d (List·Memᴰ·cases-cons k)) (subst (λ (s : ℕ). Merged ws s es ts) z (f (src + length (wordsOfEntry e)) es (rest-past (rest-taken r) a)))
+        merged-set src (e ∷ es) t (p .0) (omega arith) h (r .rising .0) (λ d k. List·Memᴰ·tail k) (λ d k. own q d (List·Memᴰ·cases-cons k)) (own-moves q j) (subst (λ (s : ℕ). Merged ws s es ts) z (f (src + length (wordsOfEntry e)) es (rest-past (rest-taken r) a)))
     by g (inr (inr b)) =
         let h : After (changeKey t) (e ∷ es) = (b, after-trans entryKey (changeKey t) (entryKey e) es b (r .rises .0)) in
         let p = no-entry src (e ∷ es) t h (r .placed .0) in
@@ -316,7 +355,7 @@ walk ws t ts f (e ∷ es) src r = by (walk ws t ts f es) (before-total (entryKey
         let j = p .1 in
         let w = r .whole in
         let z : src ≡ t .at + t .old = omega arith in
-        merged-set src (e ∷ es) t (p .0) (omega arith) h (r .rising .0) (λ d k. k) (λ d k. inr k) (subst (λ (s : ℕ). Merged ws s (e ∷ es) ts) z (f src (e ∷ es) (rest-taken r)))
+        merged-set src (e ∷ es) t (p .0) (omega arith) h (r .rising .0) (λ d k. k) (λ d k. inr k) (none-moves (e ∷ es) t j) (subst (λ (s : ℕ). Merged ws s (e ∷ es) ts) z (f src (e ∷ es) (rest-taken r)))
 
 merge : (ws : List ℕ) (ts : List Change) (src : ℕ) (es : List Entry) → Rest ws src es ts → Merged ws src es ts
 merge ws [] src es r = merged-none r
@@ -411,14 +450,22 @@ module _ (ps : List Place) (ws : List ℕ) (es : List Entry) (next : ℕ) (r : m
             absurd (omega arith)
         by (suc n) q k s = sym s ∙ counts-member (merged .entries) (merged .rises) (record { place = p; count = m′ p c; colour = c }) (has-entry p c (omega arith)) ∙ q
 
+    new-counts : countsOf (merged .entries) ≡ m′
+    new-counts = fun-ext (λ p. fun-ext (λ c. same-counts p c))
+
+    new-entries : merged .entries ≡ entriesOf net m′
+    new-entries = sym (entries-again net (merged .entries) (merged .rises) good) ∙ ap (entriesOf net) new-counts
+
     -- The words of a marking with the changes made are the words of the new counts.
     pub patched-words : patched ws 0 ts ≡ markingWords net m′
-    patched-words =
-        let counts : countsOf (merged .entries) ≡ m′ = fun-ext (λ p. fun-ext (λ c. same-counts p c)) in
-        merged .spelled
-        ∙ ap wordsOf (sym (entries-again net (merged .entries) (merged .rises) good))
-        ∙ entriesOf-words net (countsOf (merged .entries))
-        ∙ ap (markingWords net) counts
+    patched-words = merged .spelled ∙ ap wordsOf new-entries ∙ entriesOf-words net m′
+
+    -- Where the places begin in a marking with the new counts.
+    pub patched-begins : (ws′ : List ℕ) (es′ : List Entry) (next′ : ℕ) → markingRead (net .places) ws′ ≡ read es′ next′ → countsOf es′ ≡ m′ → (p : ℕ) → beginOf es′ p + oldBelow p ts ≡ beginOf es p + newBelow p ts
+    patched-begins ws′ es′ next′ r′ c p =
+        let a = entries-accepted (net .places) ws′ es′ next′ r′ in
+        let e : es′ ≡ merged .entries = sym (entries-again net es′ (a .rises) (a .good)) ∙ ap (entriesOf net) c ∙ sym new-entries in
+        rw e (merged .moved p)
 
     -- Such changes stand in order.
     pub patched-ordered : InOrder ws 0 ts

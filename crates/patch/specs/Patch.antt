@@ -4,7 +4,7 @@ use mathlib.Core.Path.{_≡_}
 use Prim.Native.Nat.{ℕ, _+_, _≤_}
 use mathlib.Core.Bool.{cond}
 use mathlib.Core.List.{List, [], _∷_, _++_, List·Memᴰ}
-use lib.Dec.{eqb}
+use lib.Dec.{eqb, ltb}
 use lib.IntN.{ℤ}
 use lib.ListN.{length, take, drop}
 use lib.Seq.{slice}
@@ -40,6 +40,15 @@ oldLength (t ∷ ts) = t .old + oldLength ts
 unfoldable pub newLength : List Change → ℕ
 newLength [] = 0
 newLength (t ∷ ts) = length (entryWords (t .place) (t .colour) (t .count)) + newLength ts
+
+-- the same of the places below p: by so much the entries of p begin sooner and later
+unfoldable pub oldBelow : ℕ → List Change → ℕ
+oldBelow p [] = 0
+oldBelow p (t ∷ ts) = cond (ltb (t .place) p) (t .old) 0 + oldBelow p ts
+
+unfoldable pub newBelow : ℕ → List Change → ℕ
+newBelow p [] = 0
+newBelow p (t ∷ ts) = cond (ltb (t .place) p) (length (entryWords (t .place) (t .colour) (t .count))) 0 + newBelow p ts
 
 -- ── When the changes are those that lead to other counts ──
 
