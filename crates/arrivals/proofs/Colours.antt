@@ -55,9 +55,9 @@ module _ (net : Net) (ms : List ℕ) (es : List Entry) (next : ℕ) (r : marking
 
   -- ── The entries of a place ──
 
-  module _ (begins : List ℕ) (b : Begins es begins) (p : ℕ) (few : p < 64) where
+  module _ (begins : List ℕ) (b : Begins (net .places) es begins) (p : ℕ) (h : p < length (net .places)) where
     there : Seen ms begins p (length (rangesAt (net .places) p)) es
-    there = seen ms begins p (length (rangesAt (net .places) p)) (net .places) es next few r b refl
+    there = seen ms begins p (length (rangesAt (net .places) p)) (net .places) es next r b h refl
 
     pub place-inside : (getD begins p 0 ≤ getD begins (p + 1) 0) × (getD begins (p + 1) 0 ≤ length ms)
     place-inside = (omega (arith, there .from, there .to), there .inside)

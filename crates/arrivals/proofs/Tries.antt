@@ -27,7 +27,7 @@ use Rattle.semantics.proofs.Fitness.{FitMatch, fit-match, FitSolve, fit-solve, 
 use Rattle.word.specs.Fields.{rangeWord}
 use Rattle.net.specs.Places.{rangesFrom, placesAt}
 use Rattle.net.proofs.Located.{Parts, reads-at, transition-parts}
-use Rattle.net.proofs.Placed.{places-length, variables-placed}
+use Rattle.net.proofs.Placed.{variables-placed}
 use Rattle.elements.specs.declared.element.Element.{Element}
 use Rattle.elements.specs.declared.element.Sort.{Sort}
 use Rattle.elements.specs.declared.element.Sort.the-variants.{Match, Solve, Range as InRange}
@@ -84,13 +84,6 @@ module _ {ws ps : List ℕ} {position v : ℕ} {inputs conjuncts elements ms beg
     pub arc-sound : SoundArc (s .net .places) (length (s .transition .variables)) a
     arc-sound = Every-at (SoundArc (s .net .places) (length (s .transition .variables))) (sound .inputs) (at-member (s .transition .inputs) k a e)
 
-    arc-few : a .place < 64
-    arc-few =
-        let l = arc-sound .there in
-        let few = w .fits .few in
-        let m : length (s .net .places) ≡ length ps = ap length (w .placed) ∙ places-length ws ps in
-        omega arith
-
   -- a conjunct
   module _ (k : ℕ) (c : Conjunct) (e : getElem? (s .transition .guard) k ≡ some c) where
     conjunct-inside : k < length conjuncts
@@ -122,7 +115,7 @@ module _ {ws ps : List ℕ} {position v : ℕ} {inputs conjuncts elements ms beg
     module _ (k : ℕ) (x : Arc) (named : getElem? (s .transition .inputs) k ≡ some x) where
       pub match-aim : Told ws ps position v inputs conjuncts ms begins e parts r (Match k) → Aimed begins x parts r
       match-aim t =
-          let i = place-inside (s .net) ms (w .entries) (w .end) (w .marked) begins (w .begun) (x .place) (arc-few k x named) in
+          let i = place-inside (s .net) ms (w .entries) (w .end) (w .marked) begins (w .begun) (x .place) (arc-sound k x named .there) in
           let h = arc-here k x named in
           t .0 (arc-inside k x named) .aimed x (h .0) (h .1) (i .0) (i .1)
 
@@ -138,7 +131,7 @@ module _ {ws ps : List ℕ} {position v : ℕ} {inputs conjuncts elements ms beg
           width = aim .wide ∙ arc-sound k (f .arc) (f .named) .width
 
           same : coloursAt ms (r .width) (r .count) (r .from) ≡ coloursOn (s .net) (s .counts) (f .arc .place)
-          same = rw (aim .many, aim .from, w .counted) (place-colours (s .net) ms (w .entries) (w .end) (w .marked) begins (w .begun) (f .arc .place) (arc-few k (f .arc) (f .named)) (r .width) width)
+          same = rw (aim .many, aim .from, w .counted) (place-colours (s .net) ms (w .entries) (w .end) (w .marked) begins (w .begun) (f .arc .place) (arc-sound k (f .arc) (f .named) .there) (r .width) width)
 
           held : (c : List ℤ) → matchedBy (rangesFrom ws v (position + 1)) (take (r .width) parts) c p ≡ matched (s .transition .variables) (f .arc .components) c p
           held c = rw ranges-here (heads-match (s .transition .variables) (take (r .width) parts) (f .arc .components) (aim .begin) c p)

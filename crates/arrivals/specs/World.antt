@@ -30,5 +30,5 @@ pub record World (ws ps : List ℕ) (position v : ℕ) (inputs conjuncts element
   pub end : ℕ
   pub marked : markingRead (s .net .places) ms ≡ read entries end
   pub counted : s .counts ≡ countsOf entries
-  pub begun : Begins entries begins
+  pub begun : Begins (s .net .places) entries begins
   pub beginnings : length begins ≡ 65

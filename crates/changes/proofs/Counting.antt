@@ -13,6 +13,7 @@ use Rattle.semantics.specs.Word.{valueWord}
 use Rattle.semantics.specs.Marking.{Entry, key, countsOf, entryWords}
 use Rattle.semantics.proofs.Tests.{not-both}
 use Rattle.net.specs.Places.{placesAt}
+use Rattle.net.proofs.Placed.{places-length}
 use Rattle.counts.specs.declared.find.Spot.{Spot}
 use Rattle.counts.specs.Counts.{IsSpot}
 use Rattle.marking.specs.Marked.{positionOf}
@@ -51,7 +52,7 @@ module _ {ws ps ik ia ok oa ms begins : List ℕ} (m : Moves ws ps ik ia ok oa b
   wide = w ∙ sym (coloured-length (widthOf ws ps (keyPlace k)) (keyCode k))
 
   found : (es : List Entry) → Sees ws ps ms begins es → (s .at ≡ positionOf es (key (keyPlace k) (keyColour ws ps k))) × (s .count ≡ countsOf es (keyPlace k) (keyColour ws ps k))
-  found es v = f .found (placesAt ws ps) es (v .next) (v .marked) (v .begun) (key-width x)
+  found es v = f .found (placesAt ws ps) es (v .next) (v .marked) (v .begun) (rw (places-length ws ps) (x .there)) (key-width x)
 
   module _ {taken made : ℕ} (t : taken ≡ sumOf ik ia k) (d : made ≡ sumOf ok oa k) where
     after-is : (es : List Entry) → Sees ws ps ms begins es → s .count - taken + made ≡ after ws ps ik ia ok oa es (keyPlace k) (keyColour ws ps k)

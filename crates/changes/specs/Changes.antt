@@ -68,7 +68,7 @@ changesFrom ws ps es m ks floor = map (changeAt ws ps es m) (keysFrom floor ks)
 pub record Sees (ws ps ms begins : List ℕ) (es : List Entry) : Type 0 where
   pub next : ℕ
   pub marked : markingRead (placesAt ws ps) ms ≡ read es next
-  pub begun : Begins es begins
+  pub begun : Begins (placesAt ws ps) es begins
 
 -- the change of a key
 pub record IsChange (ws ps ik ia ok oa ms begins : List ℕ) (k : ℕ) (r : Changed) : Type 0 where

@@ -179,9 +179,9 @@ pub record Seen (ws begins : List ℕ) (p n : ℕ) (es : List Entry) : Type 0 wh
   pub rises : Rising (λ x. x) (colours (block p es))
   pub wide : Every (Wide p n) es
 
-pub seen : (ws begins : List ℕ) (p n : ℕ) (ps : List Place) (es : List Entry) (next : ℕ) → p < 64 → markingRead ps ws ≡ read es next → Begins es begins → length (rangesAt ps p) ≡ n → Seen ws begins p n es
+pub seen : (ws begins : List ℕ) (p n : ℕ) (ps : List Place) (es : List Entry) (next : ℕ) → markingRead ps ws ≡ read es next → Begins ps es begins → p < length ps → length (rangesAt ps p) ≡ n → Seen ws begins p n es
 unfolding markingRead
-seen ws begins p n ps es next h r b l =
+seen ws begins p n ps es next r b h l =
     let e = numbered-read badMarking (readEntries (length ws) ps ws [] 0) es next r in
     let a = entries-accepted ps ws es next r in
     let s = entries-stand (length ws) ps ws [] 0 es next (omega arith) e in
@@ -212,20 +212,20 @@ module _ {ws begins : List ℕ} {p n k : ℕ} (e : k ≡ (getD begins (p + 1) 0 
 
 -- ── By the answers of the code ──
 
-module _ {ws begins : List ℕ} {p n : ℕ} {c : List ℤ} (wide : length c ≡ n) (few : p < 64) where
+module _ {ws begins : List ℕ} {p n : ℕ} {c : List ℤ} (wide : length c ≡ n) where
   -- positions that are none of a marking's
   pub spot-backwards : {r : Spot} → getD begins (p + 1) 0 < getD begins p 0 → IsSpot ws begins p c r
-  spot-backwards h = record { found = λ ps es next m b l. let s = seen ws begins p n ps es next few m b (l ∙ wide) in absurd (omega (arith, s .from, s .to)) }
+  spot-backwards h = record { found = λ ps es next m b i l. let s = seen ws begins p n ps es next m b i (l ∙ wide) in absurd (omega (arith, s .from, s .to)) }
 
   pub spot-outside : {r : Spot} → length ws < getD begins (p + 1) 0 → IsSpot ws begins p c r
-  spot-outside h = record { found = λ ps es next m b l. let s = seen ws begins p n ps es next few m b (l ∙ wide) in absurd (omega (arith, s .inside)) }
+  spot-outside h = record { found = λ ps es next m b i l. let s = seen ws begins p n ps es next m b i (l ∙ wide) in absurd (omega (arith, s .inside)) }
 
   module _ {k : ℕ} (e : k ≡ (getD begins (p + 1) 0 - getD begins p 0) / (n + 1)) where
     -- by the number of colours before the colour
     module _ (i : ℕ) (r : Rising (λ x. x) (coloursAt ws n k (getD begins p 0)) → i ≡ rankOf (coloursAt ws n k (getD begins p 0)) c) where
       spot : (count : ℕ) → ((es : List Entry) → Seen ws begins p n es → count ≡ countAt (blockAt ws p n (length (block p es)) (beginOf es p)) i c) → IsSpot ws begins p c (record { at = getD begins p 0 + i * (n + 1); count = count })
       unfolding colours
-      spot count f = record { found = λ ps es next m b l. by es (seen ws begins p n ps es next few m b (l ∙ wide)) }
+      spot count f = record { found = λ ps es next m b h l. by es (seen ws begins p n ps es next m b h (l ∙ wide)) }
         where
           ranked : (es : List Entry) → Seen ws begins p n es → i ≡ rankOf (colours (block p es)) c
           ranked es s = r (subst (λ (l : List (List ℤ)). Rising (λ x. x) l) (sym (seen-colours e s)) (s .rises)) ∙ ap (λ (l : List (List ℤ)). rankOf l c) (seen-colours e s)

@@ -32,4 +32,4 @@ pub record IsFloor (ws : List ℕ) (n from k : ℕ) (c : List ℤ) (r : ℕ) : T
 
 -- where the entry of a place and colour stands or would stand, and its count, in a marking with these beginnings
 pub record IsSpot (ws begins : List ℕ) (p : ℕ) (c : List ℤ) (r : Spot) : Type 0 where
-  pub found : (ps : List Place) (es : List Entry) (next : ℕ) → markingRead ps ws ≡ read es next → Begins es begins → length (rangesAt ps p) ≡ length c → (r .at ≡ positionOf es (key p c)) × (r .count ≡ countsOf es p c)
+  pub found : (ps : List Place) (es : List Entry) (next : ℕ) → markingRead ps ws ≡ read es next → Begins ps es begins → p < length ps → length (rangesAt ps p) ≡ length c → (r .at ≡ positionOf es (key p c)) × (r .count ≡ countsOf es p c)

@@ -58,7 +58,6 @@ pub struct Spot {
 // The entry of a place and the colour of a code, of as many components as the place has; `begins` has where the entries of each place begin.
 pub fn find(words: &[u32], begins: &[usize], place: usize, n: usize, code: u64) -> Spot
     requires { ⌜ place + 1 < length (now begins) ⌝ }
-    requires { ⌜ place < 64 ⌝ }
     requires { ⌜ (n ≤ 4) × (code < 16384 ^ n) ⌝ }
     ensures { λ r. ⌜ IsSpot (now (words .entry)) (now (begins .entry)) place (coloured n code) r ⌝ }
 {

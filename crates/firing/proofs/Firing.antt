@@ -29,7 +29,7 @@ use Rattle.semantics.proofs.Members.{none-some}
 use Rattle.net.specs.Places.{PlacesFit}
 use Rattle.net.specs.Standing.{HasConjunct, HasArc}
 use Rattle.net.proofs.Standing.{inputs-stand, outputs-stand, conjuncts-stand}
-use Rattle.marking.specs.Marked.{markingRead}
+use Rattle.marking.specs.Marked.{markingRead, Begins}
 use Rattle.marking.proofs.Counted.{marking-counts}
 use Rattle.arcs.specs.declared.gather.Gathered.{Gathered}
 use Rattle.arcs.specs.Flow.{flowsAt}
@@ -111,7 +111,7 @@ module _ {ws ps gs is os ms begins bs : List ℕ} (q : FireableAt ws ps gs is os
   proper = marking-counts (q .net) ms (q .entries) (q .end) (q .marked)
 
   sees : Sees ws ps ms begins (q .entries)
-  sees = record { next = q .end; marked = rw (← q .placed) (q .marked); begun = q .begun }
+  sees = record { next = q .end; marked = rw (← q .placed) (q .marked); begun = subst (λ (places : List Place). Begins places (q .entries) begins) (q .placed) (q .begun) }
 
   -- ── 13 ──
 

@@ -39,7 +39,7 @@ pub record FireableAt (ws ps gs is os ms begins bs : List ℕ) : Type 0 where
   pub outputs-at : os ≡ outline transition .outputs
   pub outputs : Every (λ (a : Arc). a .place < length (net .places)) (transition .outputs)
   pub marked : markingRead (net .places) ms ≡ read entries end
-  pub begun : Begins entries begins
+  pub begun : Begins (net .places) entries begins
   pub many : length bs ≡ length (transition .variables)
   pub values : lent bs ≡ bound binding
 

@@ -54,8 +54,8 @@ never-refused : {ps : List Place} {ws : List ℕ} {q : ℕ} {begins : List ℕ} 
 never-refused {q = q} A m = refused-read badMarking q _ (A .end) (m .same ∙ ap forget (A .marked))
 
 module _ {ps : List Place} {ws : List ℕ} (A : Accepted ps ws) {begins : List ℕ} {place at : ℕ} (K : Known ps ws begins place at) where
-  known-end : {begins′ : List ℕ} → length ws ≤ at → length begins′ ≡ length begins → Begun begins (place + 1) 65 at begins′ → Indexed ps ws begins′
-  known-end h l b = record { long = l ∙ K .so-far .long; of = λ es next e. record { at = marking-ends (K .so-far) h b .begins es next e } }
+  known-end : {begins′ : List ℕ} → length ps ≤ 64 → length ws ≤ at → length begins′ ≡ length begins → Begun begins (place + 1) 65 at begins′ → Indexed ps ws begins′
+  known-end few h l b = record { long = l ∙ K .so-far .long; of = λ es next e. record { at = λ p i. marking-ends (K .so-far) h b .begins es next e p (omega arith) } }
 
   -- the entry ahead, which stands after the one before it
   pub record Ahead : Type 0 where
@@ -232,7 +232,7 @@ module _ {nws ats ws : List ℕ} (F : PlacesFit nws ats) (A : Accepted (placesAt
 
   -- behind all places nothing can follow
   pub ready-end : {begins begins′ : List ℕ} {p at : ℕ} → Ready (placesAt nws ats) ws begins p at → p ≤ length ats → length ats ≤ p → length begins′ ≡ length begins → Begun begins p 65 at begins′ → Indexed (placesAt nws ats) ws begins′
-  ready-end {begins} {begins′} {p} {at} R h k l b = known-end A (T .known) (by (either (ltb at (length ws)))) (T .long) (T .begun)
+  ready-end {begins} {begins′} {p} {at} R h k l b = known-end A (T .known) (rw (places-length nws ats) (F .few)) (by (either (ltb at (length ws)))) (T .long) (T .begun)
     where
       T : Reached (placesAt nws ats) ws begins′ p 65 at
       T = R .reached begins′ 65 (omega (arith, F .few)) l b

@@ -72,9 +72,9 @@ bindingRead rs ws = numbered badBinding (then (valuesIn ws rs 0) (λ b next. end
 
 -- ── Where the entries of places begin ──
 
--- the places' beginnings in a marking
-pub record Begins (es : List Entry) (begins : List ℕ) : Type 0 where
-  pub at : (p : ℕ) → p ≤ 64 → getD begins p 0 ≡ beginOf es p
+-- the places' beginnings in a marking, and where the last place ends; a table may have more numbers, of which nothing is said
+pub record Begins (places : List Place) (es : List Entry) (begins : List ℕ) : Type 0 where
+  pub at : (p : ℕ) → p ≤ length places → getD begins p 0 ≡ beginOf es p
 
 -- words that are a marking
 pub record Accepted (places : List Place) (ws : List ℕ) : Type 0 where
@@ -85,7 +85,7 @@ pub record Accepted (places : List Place) (ws : List ℕ) : Type 0 where
 -- the places' beginnings in the marking that the words are
 pub record Indexed (places : List Place) (ws begins : List ℕ) : Type 0 where
   pub long : length begins ≡ 65
-  pub of : (es : List Entry) (next : ℕ) → markingRead places ws ≡ read es next → Begins es begins
+  pub of : (es : List Entry) (next : ℕ) → markingRead places ws ≡ read es next → Begins places es begins
 
 -- a position after some entries of one place, each of so many words, that stand one behind the other
 pub record Passed (ws : List ℕ) (from place size r : ℕ) : Type 0 where

@@ -18,7 +18,7 @@ use Rattle.semantics.specs.Marking.{Entry, countsOf}
 use Rattle.semantics.specs.Enabling.{Flow, total, covers}
 use Rattle.semantics.proofs.Tests.{false-true, and-left, and-right}
 use Rattle.net.specs.Places.{placesAt}
-use Rattle.net.proofs.Placed.{width-at}
+use Rattle.net.proofs.Placed.{places-length, width-at}
 use Rattle.counts.specs.declared.find.Spot.{Spot}
 use Rattle.counts.specs.Counts.{IsSpot}
 use Rattle.marking.specs.Marked.{markingRead, Begins}
@@ -77,7 +77,7 @@ heldKey ws ps keys amounts es k = held es (keyFlows ws ps keys amounts) (keyFlow
 
 -- for the entries of a marking that was read, with the beginnings of its places
 abbrev WhenRead : List ℕ → List ℕ → List ℕ → List ℕ → (List Entry → Type 0) → Type 0
-WhenRead ws ps ms begins P = (places : List Place) → places ≡ placesAt ws ps → (es : List Entry) (next : ℕ) → markingRead places ms ≡ read es next → Begins es begins → P es
+WhenRead ws ps ms begins P = (places : List Place) → places ≡ placesAt ws ps → (es : List Entry) (next : ℕ) → markingRead places ms ≡ read es next → Begins places es begins → P es
 
 -- the i first keys are covered, the last of them told by itself too
 pub record Covering (ws ps keys amounts ms begins : List ℕ) (i : ℕ) : Type 0 where
@@ -124,7 +124,7 @@ module _ {ws ps keys amounts ms begins : List ℕ} {i : ℕ} (a : Covering ws ps
       found : WhenRead ws ps ms begins (λ es. heldKey ws ps keys amounts es (getD keys i 0) ≡ leb sum (s .count))
       found places e es next m b =
           let f = fits-in keys i fit h in
-          let c = x .found places es next m b (rw e (key-width f)) .1 in
+          let c = x .found places es next m b (rw (e, places-length ws ps) (f .there)) (rw e (key-width f)) .1 in
           rw (y, c, ← keys-total keys amounts fit f)
 
       pub covering-short : s .count < sum → IsCovered ws ps keys amounts ms begins false

@@ -55,7 +55,7 @@ module _ (ws bs : List ℕ) (places : List Place) (at : ℕ) (t : Transition) (n
   guard-told = conjuncts-told ws bs (length (t .variables)) l (t .guard) (transition-parts ws places at t next e .guard)
 
   -- the test of enabling at the positions of the transition's conjuncts and input arcs, under words that are a binding, is that of semantics
-  pub enabled-told : (ps : List ℕ) → places ≡ placesAt ws ps → {conjuncts inputs ms begins : List ℕ} → conjuncts ≡ map (λ (c : Conjunct). c .position) (t .guard) → inputs ≡ map (λ (a : Arc). a .position) (t .inputs) → (es : List Entry) (end : ℕ) → markingRead places ms ≡ read es end → Begins es begins → (b : List ℤ) → lent bs ≡ bound b → {r : Bool} → IsEnabledAt ws ps conjuncts inputs ms begins bs r → r ≡ isEnabled houseTable t (countsOf es) b
+  pub enabled-told : (ps : List ℕ) → places ≡ placesAt ws ps → {conjuncts inputs ms begins : List ℕ} → conjuncts ≡ map (λ (c : Conjunct). c .position) (t .guard) → inputs ≡ map (λ (a : Arc). a .position) (t .inputs) → (es : List Entry) (end : ℕ) → markingRead places ms ≡ read es end → Begins places es begins → (b : List ℤ) → lent bs ≡ bound b → {r : Bool} → IsEnabledAt ws ps conjuncts inputs ms begins bs r → r ≡ isEnabled houseTable t (countsOf es) b
   unfolding isEnabled
   enabled-told ps p g i es end m k b v f = f .enabled places p es end m k ∙ rw (g, i, guard-told, inputs-told ps p, v)
 

@@ -23,11 +23,11 @@ isRepeated keys i = leb 1 i && eqb (getD keys (i - 1) 0) (getD keys i 0)
 
 -- the amounts of keys are covered
 pub record IsCovered (ws ps keys amounts ms begins : List ℕ) (r : Bool) : Type 0 where
-  pub covered : (places : List Place) → places ≡ placesAt ws ps → (es : List Entry) (next : ℕ) → markingRead places ms ≡ read es next → Begins es begins → r ≡ covers (countsOf es) (keyFlows ws ps keys amounts)
+  pub covered : (places : List Place) → places ≡ placesAt ws ps → (es : List Entry) (next : ℕ) → markingRead places ms ≡ read es next → Begins places es begins → r ≡ covers (countsOf es) (keyFlows ws ps keys amounts)
 
 -- "A binding is enabled when ..", told from positions
 pub record IsEnabledAt (ws ps conjuncts inputs ms begins bs : List ℕ) (r : Bool) : Type 0 where
-  pub enabled : (places : List Place) → places ≡ placesAt ws ps → (es : List Entry) (next : ℕ) → markingRead places ms ≡ read es next → Begins es begins → r ≡ (guardAt ws bs conjuncts && coversAll (countsOf es) (flowsAt ws ps bs inputs))
+  pub enabled : (places : List Place) → places ≡ placesAt ws ps → (es : List Entry) (next : ℕ) → markingRead places ms ≡ read es next → Begins places es begins → r ≡ (guardAt ws bs conjuncts && coversAll (countsOf es) (flowsAt ws ps bs inputs))
 
 -- what an enabled binding takes; none exactly where it is not enabled
 pub record IsTaken (ws ps conjuncts inputs ms begins bs : List ℕ) (r : Gathered) (keys amounts : List ℕ) : Type 0 where

@@ -162,8 +162,8 @@ module _ {ws ps transitions parts buffer : List ℕ} {size w : ℕ} (P : Pickabl
   -- ── Its menu ──
 
   module _ {begins : List ℕ} (z : Indexed (placesAt ws ps) (take size buffer) begins) where
-    begun : Begins (P .entries) begins
-    begun = z .of (P .entries) (P .end) marked-at
+    begun : Begins (net .places) (P .entries) begins
+    begun = subst (λ places. Begins places (P .entries) begins) (sym (P .known .placed)) (z .of (P .entries) (P .end) marked-at)
 
     pub pick-lists : Lists ws ps (getD transitions (pickTransition w) 0) head own (take size buffer) begins
     pick-lists = record { few = parted .few; long = own-long; world = subst (World ws ps (getD transitions (pickTransition w) 0) (variablesIn head) (inputsIn head own) (guardIn head own) (planIn head own) (take size buffer) begins) (sym scene-is) world }

@@ -27,6 +27,7 @@ use Rattle.net.specs.Parted.{Parted}
 use Rattle.net.specs.Places.{placesAt, PlacesFit}
 use Rattle.net.proofs.Located.{position-at, reads-at, net-transitions}
 use Rattle.net.proofs.Parted.{head-inside, front-outline}
+use Rattle.net.proofs.Placed.{places-length}
 use Rattle.accept.specs.declared.accepted.Extent.{Extent}
 use Rattle.accept.specs.Front.{IsExtent}
 use Rattle.accept.proofs.Checking.{to-all, index-refused}
@@ -137,6 +138,6 @@ module _ (ws ms : List ℕ) (t : ℕ) (r : Extent) {places widths transitions ow
                 few-conjuncts = rw y (own-parts .few .guard);
                 few-elements = rw y (own-parts .few .plan);
                 marked = r;
-                begins = record { at = λ o l. z .begins es n (rw placed at r) o l };
+                begins = record { at = λ o l. z .begins es n (rw placed at r) o (let f = places-fit few .few in let k = ap length placed ∙ places-length ws (take p (i .«places_at»)) in omega arith) };
                 same = rw (is-accepted, known h .1, r);
               }

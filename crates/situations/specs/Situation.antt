@@ -57,7 +57,7 @@ pub record Prepared (ws : List ℕ) (t : ℕ) (ms : List ℕ) (r : Index) : Type
   pub few-conjuncts : r .transition .conjuncts ≤ 8
   pub few-elements : r .transition .elements ≤ 8
   pub marked : markingRead (net .places) ms ≡ read entries end
-  pub begins : Begins entries (r .begins)
+  pub begins : Begins (net .places) entries (r .begins)
   pub same : situation ws t ms ≡ read (record { net = net; transition = transition; counts = countsOf entries }) 0
 
 pub record IsSituation (ws : List ℕ) (t : ℕ) (ms : List ℕ) (r : Index) : Type 0 where

@@ -12,19 +12,19 @@ use Rattle.counts.proofs.find.find.Statement.{statement}
 use Rattle.counts.proofs.find.find.Tie as tie
 
 returns : tie.Need-returns
-returns c = let s = c .before .before .before .before .before in spot-backwards (coloured-length (s .args .n) (s .args .code)) (s .pre .1 .0) (c .if1 .taken)
+returns c = let s = c .before .before .before .before .before in spot-backwards (coloured-length (s .args .n) (s .args .code)) (c .if1 .taken)
 
 returns-2 : tie.Need-returns-2
-returns-2 c = let s = c .before .before .before .before .before .before in spot-outside (coloured-length (s .args .n) (s .args .code)) (s .pre .1 .0) (c .if2 .taken)
+returns-2 c = let s = c .before .before .before .before .before .before in spot-outside (coloured-length (s .args .n) (s .args .code)) (c .if2 .taken)
 
 returns-3 : tie.Need-returns-3
-returns-3 c = let s = c .before .before .before .before .before .before .before .before in spot-none (coloured-length (s .args .n) (s .args .code)) (s .pre .1 .0) (c .before .entries .ensures) (c .if3 .taken)
+returns-3 c = let s = c .before .before .before .before .before .before .before .before in spot-none (coloured-length (s .args .n) (s .args .code)) (c .before .entries .ensures) (c .if3 .taken)
 
 floor-requires : tie.Need-floor-requires
 floor-requires c κs =
     let s = c .before .before .before .before .before .before .before .before in
     let m = rows-inside (getD (s .args .begins .now) (s .args .place) 0) (getD (s .args .begins .now) (s .args .place + 1) 0) (s .args .n + 1) (length (s .args .words .now)) (c .before .before .before .if1 .left) (c .before .before .if2 .left) in
-    (omega arith, (rw (c .before .entries .ensures) m, s .pre .1 .1))
+    (omega arith, (rw (c .before .entries .ensures) m, s .pre .1))
 
 -- the entry that the bisection ends at lies inside the words
 inside : (c : tie.After-floor) → getD (c .before .before .before .before .before .before .before .before .before .args .begins .now) (c .before .before .before .before .before .before .before .before .before .args .place) 0 + c .floor .result * (c .before .before .before .before .before .before .before .before .before .args .n + 1) + (c .before .before .before .before .before .before .before .before .before .args .n + 1) ≤ length (c .before .before .before .before .before .before .before .before .before .args .words .now)
@@ -58,21 +58,21 @@ returns-4 c =
     let x = c .before .before in
     let f = x .before in
     let s = f .before .before .before .before .before .before .before .before .before in
-    spot-there (coloured-length (s .args .n) (s .args .code)) (s .pre .1 .0) (f .before .before .entries .ensures) (f .floor .ensures) (sym (x .code-at .ensures .same) ∙ ap (coloured (s .args .n)) (c .before .if4 .taken))
+    spot-there (coloured-length (s .args .n) (s .args .code)) (f .before .before .entries .ensures) (f .floor .ensures) (sym (x .code-at .ensures .same) ∙ ap (coloured (s .args .n)) (c .before .if4 .taken))
 
 returns-5 : tie.Need-returns-5
 returns-5 c =
     let x = c .before .before in
     let f = x .before in
     let s = f .before .before .before .before .before .before .before .before .before in
-    spot-before (coloured-length (s .args .n) (s .args .code)) (s .pre .1 .0) (f .before .before .entries .ensures) (f .floor .ensures) (sym (coded-before (s .args .code) (x .code-at .ensures) (s .pre .1 .1 .1)) ∙ lt-ltb _ _ (c .if5 .taken))
+    spot-before (coloured-length (s .args .n) (s .args .code)) (f .before .before .entries .ensures) (f .floor .ensures) (sym (coded-before (s .args .code) (x .code-at .ensures) (s .pre .1 .1)) ∙ lt-ltb _ _ (c .if5 .taken))
 
 returns-6 : tie.Need-returns-6
 returns-6 c =
     let x = c .before .before in
     let f = x .before in
     let s = f .before .before .before .before .before .before .before .before .before in
-    spot-after (coloured-length (s .args .n) (s .args .code)) (s .pre .1 .0) (f .before .before .entries .ensures) (f .floor .ensures) (sym (coded-after (s .args .code) (x .code-at .ensures) (s .pre .1 .1 .1)) ∙ lt-ltb (s .args .code) (x .code-at .result) (omega (arith, c .if5 .left, c .before .if4 .left)))
+    spot-after (coloured-length (s .args .n) (s .args .code)) (f .before .before .entries .ensures) (f .floor .ensures) (sym (coded-after (s .args .code) (x .code-at .ensures) (s .pre .1 .1)) ∙ lt-ltb (s .args .code) (x .code-at .result) (omega (arith, c .if5 .left, c .before .if4 .left)))
 
 pub find-spec : {M : Type 1} → statement M
 find-spec =

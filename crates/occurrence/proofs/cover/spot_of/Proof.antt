@@ -14,7 +14,7 @@ find-requires c κs =
     let begins = p .1 .0 in
     let e = c .width-of .ensures .0 in
     let n = c .width-of .ensures .1 in
-    (omega arith, (omega arith, (n, rw e (p .1 .1 .small))))
+    (omega arith, (n, rw e (p .1 .1 .small)))
 
 returns : tie.Need-returns
 returns c = rw (c .before .width-of .ensures .0) at (c .find .ensures)
