@@ -45,12 +45,16 @@ unfolding entryWords
 entry-size p c zero = refl
 entry-size p c (suc n) = let l = length-map c valueWord in rw (ne-eqb (suc n) 0 (λ e. omega arith)) (omega arith)
 
+-- the components of a key's colour are those of its place
+key-wide : (ws ps : List ℕ) (k : ℕ) {width : ℕ} → width ≡ widthOf ws ps (keyPlace k) → width ≡ length (keyColour ws ps k)
+key-wide ws ps k w = w ∙ sym (coloured-length (widthOf ws ps (keyPlace k)) (keyCode k))
+
+pub key-size : (ws ps : List ℕ) (k count : ℕ) {width size : ℕ} → width ≡ widthOf ws ps (keyPlace k) → size ≡ entrySize count width → size ≡ length (entryWords (keyPlace k) (keyColour ws ps k) count)
+key-size ws ps k count w e = e ∙ ap (entrySize count) (key-wide ws ps k w) ∙ entry-size (keyPlace k) (keyColour ws ps k) count
+
 -- ── One change ──
 
 module _ {ws ps ik ia ok oa ms begins : List ℕ} (m : Moves ws ps ik ia ok oa begins) {k : ℕ} (x : KeyFits ws ps k) {s : Spot} (f : IsSpot ms begins (keyPlace k) (keyColour ws ps k) s) {width : ℕ} (w : width ≡ widthOf ws ps (keyPlace k)) (narrow : width ≤ 4) where
-  wide : width ≡ length (keyColour ws ps k)
-  wide = w ∙ sym (coloured-length (widthOf ws ps (keyPlace k)) (keyCode k))
-
   found : (es : List Entry) → Sees ws ps ms begins es → (s .at ≡ positionOf es (key (keyPlace k) (keyColour ws ps k))) × (s .count ≡ countsOf es (keyPlace k) (keyColour ws ps k))
   found es v = f .found (placesAt ws ps) es (v .next) (v .marked) (v .begun) (rw (places-length ws ps) (x .there)) (key-width x)
 
@@ -65,7 +69,7 @@ module _ {ws ps ik ia ok oa ms begins : List ℕ} (m : Moves ws ps ik ia ok oa b
           ap (λ (z : ℕ). change z (s .at) old) (c .same p ∙ after-is es v)
           ∙ ap (λ (z : ℕ). change (after ws ps ik ia ok oa es (keyPlace k) (keyColour ws ps k)) z old) (found es v .0)
           ∙ ap (change (after ws ps ik ia ok oa es (keyPlace k) (keyColour ws ps k)) (positionOf es (key (keyPlace k) (keyColour ws ps k)))) (size es v);
-      new = e ∙ ap (entrySize (n .count)) wide ∙ entry-size (keyPlace k) (keyColour ws ps k) (n .count);
+      new = key-size ws ps k (n .count) w e;
       small = c .small;
       old-short = rw o (size-short (s .count) width narrow);
       new-short = rw e (size-short (n .count) width narrow);
@@ -75,4 +79,4 @@ module _ {ws ps ik ia ok oa ms begins : List ℕ} (m : Moves ws ps ik ia ok oa b
         change z a b = record { place = keyPlace k; colour = keyColour ws ps k; count = z; at = a; old = b }
 
         size : (es : List Entry) → Sees ws ps ms begins es → old ≡ entrySize (countsOf es (keyPlace k) (keyColour ws ps k)) (length (keyColour ws ps k))
-        size es v = o ∙ ap (λ (z : ℕ). entrySize z width) (found es v .1) ∙ ap (entrySize (countsOf es (keyPlace k) (keyColour ws ps k))) wide
+        size es v = o ∙ ap (λ (z : ℕ). entrySize z width) (found es v .1) ∙ ap (entrySize (countsOf es (keyPlace k) (keyColour ws ps k))) (key-wide ws ps k w)

@@ -26,7 +26,7 @@ use Rattle.colours.specs.Values.{valuesAt}
 use Rattle.counts.specs.Counts.{blockAt, coloursAt, IsFloor, IsSpot}
 use Rattle.marking.specs.Marked.{markingRead, positionOf, beginOf, Begins}
 use Rattle.marking.proofs.Counted.{entries-accepted}
-use Rattle.marking.proofs.Rising.{sizeOf, entry-stands}
+use Rattle.marking.proofs.Rising.{sizeOf, position-size, entry-stands}
 use Rattle.counts.proofs.Ranked.{rankOf, rank-none, floor-there, floor-before, floor-after, entry-room}
 use Rattle.counts.proofs.Blocks.{on, block, Wide, key-same, position-rank, begin-next, counts-block, Stand, block-stands}
 
@@ -69,15 +69,6 @@ stand-size : (ws : List ℕ) (at : ℕ) (es : List Entry) → Stand ws at es →
 unfolding sizeOf
 stand-size ws at [] s = omega arith
 stand-size ws at (e ∷ es) s = let h = stand-size ws (at + (length (e .colour) + 1)) es (s .2) in omega arith
-
-position-size : (es : List Entry) (k : List ℤ) → positionOf es k ≤ sizeOf es
-unfolding positionOf sizeOf
-position-size [] k = omega arith
-position-size (e ∷ es) k = by (position-size es k) (either (before (key (e .place) (e .colour)) k))
-  where
-    by : positionOf es k ≤ sizeOf es → (before (key (e .place) (e .colour)) k ≡ true) ⊎ (before (key (e .place) (e .colour)) k ≡ false) → cond (before (key (e .place) (e .colour)) k) (1 + length (e .colour)) 0 + positionOf es k ≤ 1 + length (e .colour) + sizeOf es
-    by h (inl t) = rw t (omega arith)
-    by h (inr t) = rw t (omega arith)
 
 -- ── The entry at the rank ──
 

@@ -60,6 +60,6 @@ module _ {ws : List ℕ} {t : ℕ} {ms : List ℕ} {s : Index} (p : Prepared ws 
       pub fireable-lent : FireableAt ws (take (s .places) (s .«places_at»)) (take g (drop 16 (s .own))) (outlined s .inputs) (take o (drop 8 (s .own))) ms (s .begins) bs
       fireable-lent = rw (a, b) fireable
 
-      pub fire-answers : {f : Fired} {buffer after : List ℕ} → IsFiredAt ws (take (s .places) (s .«places_at»)) (take g (drop 16 (s .own))) (outlined s .inputs) (take o (drop 8 (s .own))) ms (s .begins) bs buffer f after → fireEnd f after ≡ fireCall ws t ms bs buffer
+      pub fire-answers : {f : Fired} {buffer after begins′ : List ℕ} → IsFiredAt ws (take (s .places) (s .«places_at»)) (take g (drop 16 (s .own))) (outlined s .inputs) (take o (drop 8 (s .own))) ms (s .begins) bs buffer f after begins′ → fireEnd f after ≡ fireCall ws t ms bs buffer
       unfolding fireCall fireable
-      fire-answers h = rw (p .same, bound-read p bs r x e .1) ((rw (a, b) at h) .fired fireable)
+      fire-answers h = rw (p .same, bound-read p bs r x e .1) ((rw (a, b) at h) .fired fireable .end)

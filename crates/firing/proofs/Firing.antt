@@ -20,7 +20,6 @@ use Rattle.semantics.specs.Net.{Place, Arc}
 use Rattle.semantics.specs.Marking.{Counts, Proper, countsOf}
 use Rattle.semantics.specs.Enabling.{Flow, effect, flows, coversAll, isEnabled, fits, withinCounts, Firing, moved, stopped, occurBy, occur}
 use Rattle.semantics.specs.Run.{roomed, fire}
-use Rattle.semantics.specs.Calls.{firedBy}
 use Rattle.semantics.proofs.Tests.{either, not-both, same-test, Every-at, every-at, every-of}
 use Rattle.semantics.proofs.Enabling.{at-named}
 use Rattle.semantics.proofs.Markings.{step-proper}
@@ -42,7 +41,7 @@ use Rattle.occurrence.proofs.Reading.{inputs-told, outputs-told, enabled-told}
 use Rattle.changes.specs.Keys.{keysFrom}
 use Rattle.firing.specs.Fire.{FireableAt}
 use Rattle.changes.specs.Changes.{Keyed, Moves, after, within, Sees}
-use Rattle.steps.specs.Steps.{Stepping, IsStep, fireEnd}
+use Rattle.steps.specs.Steps.{FiredTo, Stepping, IsStep}
 use Rattle.changes.proofs.Sorted.{sort-in, keys-all}
 
 -- flows that were gathered
@@ -119,11 +118,11 @@ module _ {ws ps gs is os ms begins bs : List ℕ} (q : FireableAt ws ps gs is os
     enabled-is : r ≡ isEnabled houseTable (q .transition) (countsOf (q .entries)) (q .binding)
     enabled-is = enabled-told ws bs (q .net .places) (q .at) (q .transition) (q .after) (q .there) (q .many) ps (q .placed) (q .guard-at) (q .inputs-at) (q .entries) (q .end) (q .marked) (q .begun) (q .binding) (q .values) i
 
-    pub fired-13 : (buffer : List ℕ) → not r ≡ true → fireEnd (FireRefused notEnabled 0) buffer ≡ firedBy (q .net) buffer (fire houseTable (q .net) (length buffer) (q .transition) (countsOf (q .entries)) (q .binding))
+    pub fired-13 : (buffer : List ℕ) → not r ≡ true → FiredTo (q .net) buffer begins (FireRefused notEnabled 0) buffer begins (fire houseTable (q .net) (length buffer) (q .transition) (countsOf (q .entries)) (q .binding))
     unfolding fire occur
     fired-13 buffer d =
         let e : isEnabled houseTable (q .transition) (countsOf (q .entries)) (q .binding) ≡ false = sym enabled-is ∙ not-true r d in
-        rw e
+        rw e (record { end = refl; begun = refl })
 
   -- a binding that semantics says is enabled is enabled for the code
   pub enabled-at : isEnabled houseTable (q .transition) (countsOf (q .entries)) (q .binding) ≡ true → IsEnabledAt ws ps gs is ms begins bs true
@@ -168,17 +167,17 @@ module _ {ws ps gs is os ms begins bs : List ℕ} (q : FireableAt ws ps gs is os
         every-fits [] = refl
         every-fits (f ∷ fs) = let e : fitsAt ws ps f ≡ fits (q .net) f = rw (q .placed) in rw (e, every-fits fs)
 
-        pub fired-14 : (buffer : List ℕ) → not (outs .some) ≡ true → fireEnd (FireRefused badOutput 0) buffer ≡ firedBy (q .net) buffer (fire houseTable (q .net) (length buffer) (q .transition) (countsOf (q .entries)) (q .binding))
+        pub fired-14 : (buffer : List ℕ) → not (outs .some) ≡ true → FiredTo (q .net) buffer begins (FireRefused badOutput 0) buffer begins (fire houseTable (q .net) (length buffer) (q .transition) (countsOf (q .entries)) (q .binding))
         unfolding fire occur
         fired-14 buffer d = rw (enabled, taken .told) (by (flows houseTable (bound (q .binding)) (q .transition .outputs)) (sym (ap (λ (s : Bool). given s (keyFlows ws ps (take (outs .n) okeys) (take (outs .n) oamounts))) (not-true (outs .some) d)) ∙ made-is))
           where
-            by : (x : Option (List Flow)) → none ≡ gatheredBy ws ps x → fireEnd (FireRefused badOutput 0) buffer ≡ firedBy (q .net) buffer (roomed (q .net) (length buffer) (occurBy (q .net) (countsOf (q .entries)) (some (taken .flows-are)) x))
-            by none e = refl
+            by : (x : Option (List Flow)) → none ≡ gatheredBy ws ps x → FiredTo (q .net) buffer begins (FireRefused badOutput 0) buffer begins (roomed (q .net) (length buffer) (occurBy (q .net) (countsOf (q .entries)) (some (taken .flows-are)) x))
+            by none e = record { end = refl; begun = refl }
             by (some fs) e = unfit (either (every (fits (q .net)) fs))
               where
-                unfit : (every (fits (q .net)) fs ≡ true) ⊎ (every (fits (q .net)) fs ≡ false) → fireEnd (FireRefused badOutput 0) buffer ≡ firedBy (q .net) buffer (roomed (q .net) (length buffer) (occurBy (q .net) (countsOf (q .entries)) (some (taken .flows-are)) (some fs)))
+                unfit : (every (fits (q .net)) fs ≡ true) ⊎ (every (fits (q .net)) fs ≡ false) → FiredTo (q .net) buffer begins (FireRefused badOutput 0) buffer begins (roomed (q .net) (length buffer) (occurBy (q .net) (countsOf (q .entries)) (some (taken .flows-are)) (some fs)))
                 unfit (inl h) = none-some (e ∙ ap (λ (s : Bool). given s (select moving fs)) (every-fits fs ∙ h))
-                unfit (inr h) = rw h
+                unfit (inr h) = rw h (record { end = refl; begun = refl })
 
         -- ── 15, 16, or the new marking ──
 
@@ -235,6 +234,6 @@ module _ {ws ps gs is os ms begins bs : List ℕ} (q : FireableAt ws ps gs is os
           pub fired-stepping : Moves ws ps ik ia ok oa begins → Stepping ws ps ik ia ok oa ms begins
           fired-stepping m = record { moves = m; net = q .net; entries = q .entries; placed = q .placed; sees = sees; proper = new-proper }
 
-          pub fired-step : Moves ws ps ik ia ok oa begins → {buffer : List ℕ} {r : Fired} {rest : List ℕ} → IsStep ws ps ik ia ok oa ms begins buffer r rest → fireEnd r rest ≡ firedBy (q .net) buffer (fire houseTable (q .net) (length buffer) (q .transition) (countsOf (q .entries)) (q .binding))
+          pub fired-step : Moves ws ps ik ia ok oa begins → {buffer : List ℕ} {r : Fired} {rest begins′ : List ℕ} → IsStep ws ps ik ia ok oa ms begins buffer r rest begins′ → FiredTo (q .net) buffer begins r rest begins′ (fire houseTable (q .net) (length buffer) (q .transition) (countsOf (q .entries)) (q .binding))
           unfolding fire fired-stepping
-          fired-step m {buffer} x = x .fired (fired-stepping m) ∙ ap (λ (f : Firing). firedBy (q .net) buffer (roomed (q .net) (length buffer) f)) (sym occurs)
+          fired-step m {buffer} {r} {rest} {begins′} x = subst (λ (f : Firing). FiredTo (q .net) buffer begins r rest begins′ (roomed (q .net) (length buffer) f)) (sym occurs) (x .fired (fired-stepping m))

@@ -14,14 +14,13 @@ use Rattle.semantics.specs.ReadNet.{readTransition}
 use Rattle.semantics.specs.Lists.{Every}
 use Rattle.semantics.specs.Marking.{Entry, countsOf}
 use Rattle.semantics.specs.Run.{fire}
-use Rattle.semantics.specs.Calls.{firedBy}
 use Rattle.evaluation.specs.Evaluate.{lent}
 use Rattle.net.specs.Skim.{outline}
 use Rattle.net.specs.Places.{placesAt}
 use Rattle.marking.specs.Marked.{markingRead, Begins}
 use Rattle.arcs.specs.Keys.{IsGathered}
 use Rattle.occurrence.specs.Answers.{IsEnabledAt}
-use Rattle.steps.specs.Steps.{fireEnd}
+use Rattle.steps.specs.Steps.{FiredTo}
 
 -- a transition of a net, whose conjuncts and arcs stand at these positions, a marking and a binding, with what the code has of them
 pub record FireableAt (ws ps gs is os ms begins bs : List ℕ) : Type 0 where
@@ -43,9 +42,9 @@ pub record FireableAt (ws ps gs is os ms begins bs : List ℕ) : Type 0 where
   pub many : length bs ≡ length (transition .variables)
   pub values : lent bs ≡ bound binding
 
--- the answer, and the buffer after it
-pub record IsFiredAt (ws ps gs is os ms begins bs buffer : List ℕ) (r : Fired) (after : List ℕ) : Type 0 where
-  pub fired : (q : FireableAt ws ps gs is os ms begins bs) → fireEnd r after ≡ firedBy (q .net) buffer (fire houseTable (q .net) (length buffer) (q .transition) (countsOf (q .entries)) (q .binding))
+-- the answer, the buffer after it, and where the places of its marking begin
+pub record IsFiredAt (ws ps gs is os ms begins bs buffer : List ℕ) (r : Fired) (after begins′ : List ℕ) : Type 0 where
+  pub fired : (q : FireableAt ws ps gs is os ms begins bs) → FiredTo (q .net) buffer begins r after begins′ (fire houseTable (q .net) (length buffer) (q .transition) (countsOf (q .entries)) (q .binding))
 
 -- ── A binding that is known to be enabled ──
 
@@ -56,8 +55,8 @@ pub record EnabledAt (ws ps is os ms begins bs : List ℕ) : Type 0 where
   pub enabled : IsEnabledAt ws ps conjuncts is ms begins bs true
 
 -- what fire answers, for all conjuncts that the binding is enabled by
-pub record IsFiredEnabled (ws ps is os ms begins bs buffer : List ℕ) (r : Fired) (after : List ℕ) : Type 0 where
-  pub fired : (gs : List ℕ) → IsEnabledAt ws ps gs is ms begins bs true → IsFiredAt ws ps gs is os ms begins bs buffer r after
+pub record IsFiredEnabled (ws ps is os ms begins bs buffer : List ℕ) (r : Fired) (after begins′ : List ℕ) : Type 0 where
+  pub fired : (gs : List ℕ) → IsEnabledAt ws ps gs is ms begins bs true → IsFiredAt ws ps gs is os ms begins bs buffer r after begins′
 
 -- what it takes are the first n keys and amounts, and the input arcs are not looked at again
 pub record TakenAt (ws ps os ms begins bs keys amounts : List ℕ) (n : ℕ) : Type 0 where
@@ -67,5 +66,5 @@ pub record TakenAt (ws ps os ms begins bs keys amounts : List ℕ) (n : ℕ) : T
   pub gathered : IsGathered ws ps bs inputs (record { some = true; arcs = arcs; n = n }) keys amounts
 
 -- the same for all input arcs that take them
-pub record IsFiredTaken (ws ps os ms begins bs keys amounts : List ℕ) (n : ℕ) (buffer : List ℕ) (r : Fired) (after : List ℕ) : Type 0 where
-  pub fired : (is : List ℕ) (arcs : ℕ) → IsGathered ws ps bs is (record { some = true; arcs = arcs; n = n }) keys amounts → IsFiredEnabled ws ps is os ms begins bs buffer r after
+pub record IsFiredTaken (ws ps os ms begins bs keys amounts : List ℕ) (n : ℕ) (buffer : List ℕ) (r : Fired) (after begins′ : List ℕ) : Type 0 where
+  pub fired : (is : List ℕ) (arcs : ℕ) → IsGathered ws ps bs is (record { some = true; arcs = arcs; n = n }) keys amounts → IsFiredEnabled ws ps is os ms begins bs buffer r after begins′

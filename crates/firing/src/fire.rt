@@ -23,7 +23,7 @@ fn fire_taken(
     in_amounts: &[u32],
     n: usize,
     marking: &[u32],
-    begins: &[usize],
+    begins: &mut [usize],
     binding: &[u32],
     next: &mut [u32],
 ) -> Fired
@@ -31,7 +31,7 @@ fn fire_taken(
     requires { ⌜ length (now begins) ≡ 65 ⌝ }
     requires { ⌜ length (now outputs) ≤ 8 ⌝ }
     requires { ⌜ TakenAt (now net) (now places) (now outputs) (now marking) (now begins) (now binding) (now «in_keys») (now «in_amounts») n ⌝ }
-    ensures { λ r. ⌜ IsFiredTaken (now (net .entry)) (now (places .entry)) (now (outputs .entry)) (now (marking .entry)) (now (begins .entry)) (now (binding .entry)) (now («in_keys» .entry)) (now («in_amounts» .entry)) n (now (next .entry)) r (now (next .exit)) ⌝ }
+    ensures { λ r. ⌜ IsFiredTaken (now (net .entry)) (now (places .entry)) (now (outputs .entry)) (now (marking .entry)) (now (begins .entry)) (now (binding .entry)) (now («in_keys» .entry)) (now («in_amounts» .entry)) n (now (next .entry)) r (now (next .exit)) (now (begins .exit)) ⌝ }
 {
     let mut out_keys = [0u64; 8];
     let mut out_amounts = [0u32; 8];
@@ -70,7 +70,7 @@ fn fire_arcs(
     inputs: &[usize],
     outputs: &[usize],
     marking: &[u32],
-    begins: &[usize],
+    begins: &mut [usize],
     binding: &[u32],
     next: &mut [u32],
 ) -> Fired
@@ -78,7 +78,7 @@ fn fire_arcs(
     requires { ⌜ length (now begins) ≡ 65 ⌝ }
     requires { ⌜ (length (now inputs) ≤ 8) × (length (now outputs) ≤ 8) ⌝ }
     requires { ⌜ FireableAt (now net) (now places) (now conjuncts) (now inputs) (now outputs) (now marking) (now begins) (now binding) ⌝ }
-    ensures { λ r. ⌜ IsFiredAt (now (net .entry)) (now (places .entry)) (now (conjuncts .entry)) (now (inputs .entry)) (now (outputs .entry)) (now (marking .entry)) (now (begins .entry)) (now (binding .entry)) (now (next .entry)) r (now (next .exit)) ⌝ }
+    ensures { λ r. ⌜ IsFiredAt (now (net .entry)) (now (places .entry)) (now (conjuncts .entry)) (now (inputs .entry)) (now (outputs .entry)) (now (marking .entry)) (now (begins .entry)) (now (binding .entry)) (now (next .entry)) r (now (next .exit)) (now (begins .exit)) ⌝ }
 {
     let mut keys = [0u64; 8];
     let mut amounts = [0u32; 8];
@@ -117,7 +117,7 @@ pub fn fire_enabled(
     inputs: &[usize],
     outputs: &[usize],
     marking: &[u32],
-    begins: &[usize],
+    begins: &mut [usize],
     binding: &[u32],
     next: &mut [u32],
 ) -> Fired
@@ -125,7 +125,7 @@ pub fn fire_enabled(
     requires { ⌜ length (now begins) ≡ 65 ⌝ }
     requires { ⌜ (length (now inputs) ≤ 8) × (length (now outputs) ≤ 8) ⌝ }
     requires { ⌜ EnabledAt (now net) (now places) (now inputs) (now outputs) (now marking) (now begins) (now binding) ⌝ }
-    ensures { λ r. ⌜ IsFiredEnabled (now (net .entry)) (now (places .entry)) (now (inputs .entry)) (now (outputs .entry)) (now (marking .entry)) (now (begins .entry)) (now (binding .entry)) (now (next .entry)) r (now (next .exit)) ⌝ }
+    ensures { λ r. ⌜ IsFiredEnabled (now (net .entry)) (now (places .entry)) (now (inputs .entry)) (now (outputs .entry)) (now (marking .entry)) (now (begins .entry)) (now (binding .entry)) (now (next .entry)) r (now (next .exit)) (now (begins .exit)) ⌝ }
 {
     let mut keys = [0u64; 8];
     let mut amounts = [0u32; 8];
@@ -185,7 +185,7 @@ pub fn fire(
                         &own[..inputs],
                         &own[8..8 + outputs],
                         marking,
-                        &begins[..],
+                        &mut begins,
                         binding,
                         next,
                     )

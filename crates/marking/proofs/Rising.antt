@@ -96,6 +96,16 @@ unfolding positionOf
 position-snoc [] e k = omega arith
 position-snoc (d ∷ es) e k = let h = position-snoc es e k in omega arith
 
+-- no position lies behind them
+pub position-size : (es : List Entry) (k : List ℤ) → positionOf es k ≤ sizeOf es
+unfolding positionOf sizeOf
+position-size [] k = omega arith
+position-size (e ∷ es) k = by (position-size es k) (either (before (key (e .place) (e .colour)) k))
+  where
+    by : positionOf es k ≤ sizeOf es → (before (key (e .place) (e .colour)) k ≡ true) ⊎ (before (key (e .place) (e .colour)) k ≡ false) → cond (before (key (e .place) (e .colour)) k) (1 + length (e .colour)) 0 + positionOf es k ≤ 1 + length (e .colour) + sizeOf es
+    by h (inl t) = rw t (omega arith)
+    by h (inr t) = rw t (omega arith)
+
 -- entries of lesser places stand before a place's first, the others do not
 place-before : (e : Entry) (p : ℕ) → e .place < p → before (key (e .place) (e .colour)) (pos p ∷ []) ≡ true
 unfolding before

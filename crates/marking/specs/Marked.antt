@@ -10,9 +10,9 @@ use lib.ListN.{length, getD, take}
 use Rattle.semantics.specs.Refusal.{badMarking, badBinding}
 use Rattle.semantics.specs.Word.{Range}
 use Rattle.semantics.specs.Reading.{Reading, read, refused, then, valuesIn, ended, numbered}
-use Rattle.semantics.specs.Net.{Place}
+use Rattle.semantics.specs.Net.{Place, Net}
 use Rattle.semantics.specs.Order.{before}
-use Rattle.semantics.specs.Marking.{Entry, key, readEntries}
+use Rattle.semantics.specs.Marking.{Entry, key, readEntries, Counts, countsOf, markingWords}
 use Rattle.expression.specs.declared.read.Skipped.{Skipped}
 use Rattle.expression.specs.declared.read.Skipped.the-variants.{Refused}
 use Rattle.expression.specs.Skip.{forget, skipped}
@@ -75,6 +75,10 @@ bindingRead rs ws = numbered badBinding (then (valuesIn ws rs 0) (λ b next. end
 -- the places' beginnings in a marking, and where the last place ends; a table may have more numbers, of which nothing is said
 pub record Begins (places : List Place) (es : List Entry) (begins : List ℕ) : Type 0 where
   pub at : (p : ℕ) → p ≤ length places → getD begins p 0 ≡ beginOf es p
+
+-- the places' beginnings in the marking of counts
+pub record BeginsFor (net : Net) (m : Counts) (begins : List ℕ) : Type 0 where
+  pub of : (es : List Entry) (next : ℕ) → markingRead (net .places) (markingWords net m) ≡ read es next → countsOf es ≡ m → Begins (net .places) es begins
 
 -- words that are a marking
 pub record Accepted (places : List Place) (ws : List ℕ) : Type 0 where

@@ -10,9 +10,10 @@ use Prim.Native.Nat.{ℕ, zero, suc, _+_, _-_, _≤_}
 use native.Mathlib.Omega.{arith}
 use borrow.Author.Tests.{eqb-true, ne-eqb}
 use lib.Dec.{eqb, ltb}
-use lib.IntN.{ℤ}
+use lib.IntN.{ℤ, pos}
 use lib.ListN.{length, take, drop, length-append, length-map, length-drop}
 use lib.Seq.{slice, slice-empty, length-slice, take-append-add}
+use Rattle.semantics.specs.Refusal.{mostWords}
 use Rattle.semantics.specs.Lists.{Every}
 use Rattle.semantics.specs.Word.{valueWord}
 use Rattle.semantics.specs.Reading.{read}
@@ -28,7 +29,7 @@ use Rattle.semantics.proofs.ReadEntries.{Accepted, whole-words}
 use Rattle.word.proofs.Slices.{slice-from}
 use Rattle.marking.specs.Marked.{markingRead, positionOf, beginOf}
 use Rattle.marking.proofs.Counted.{entries-accepted}
-use Rattle.marking.proofs.Rising.{place-order}
+use Rattle.marking.proofs.Rising.{sizeOf, position-size, place-order}
 use Rattle.patch.specs.Patch.{Change, changeKey, patched, oldLength, newLength, oldBelow, newBelow, Told, Untouched, Changing, Apart, InOrder}
 
 -- ── Parts of the words ──
@@ -49,6 +50,11 @@ slice-past l s xs ys t e h =
 
 size : (e : Entry) → length (wordsOfEntry e) ≡ 1 + length (e .colour)
 size e = omega (arith, length-map (e .colour) valueWord)
+
+sizes : (es : List Entry) → length (wordsOf es) ≡ sizeOf es
+unfolding sizeOf flatMap
+sizes [] = refl
+sizes (e ∷ es) = let i = sizes es in omega (arith, length-append (wordsOfEntry e) (wordsOf es), size e)
 
 -- all entries, or all changes, stand after a key
 abbrev After : List ℤ → List Entry → Type 0
@@ -386,6 +392,15 @@ module _ (ps : List Place) (ws : List ℕ) (es : List Entry) (next : ℕ) (r : m
   accepted : Accepted ps ws [] 0 es next
   accepted = entries-accepted ps ws es next r
 
+  -- no place begins behind the words, at most 16,384
+  pub begins-low : (p : ℕ) → beginOf es p ≤ mostWords
+  begins-low p =
+      let a = accepted in
+      let l = ap length (whole-words ps ws es next a) in
+      let e = a .ended in
+      let s = a .span .short (omega arith) in
+      omega (arith, sizes es, position-size es (pos p ∷ []))
+
   module _ (net : Net) (m′ : Counts) (ts : List Change) (x : Changing net es m′ ts) where
     start : Rest ws 0 es ts
     start =
@@ -466,6 +481,10 @@ module _ (ps : List Place) (ws : List ℕ) (es : List Entry) (next : ℕ) (r : m
         let a = entries-accepted (net .places) ws′ es′ next′ r′ in
         let e : es′ ≡ merged .entries = sym (entries-again net es′ (a .rises) (a .good)) ∙ ap (entriesOf net) c ∙ sym new-entries in
         rw e (merged .moved p)
+
+    -- So no place begins before the old entries below it are taken away.
+    pub patched-enough : (p : ℕ) → oldBelow p ts ≤ beginOf es p + newBelow p ts
+    patched-enough p = let i = merged .moved p in omega arith
 
     -- Such changes stand in order.
     pub patched-ordered : InOrder ws 0 ts

@@ -16,7 +16,7 @@ use Rattle.semantics.specs.Run.{fire}
 use Rattle.semantics.specs.Calls.{FireEnd, firedBy}
 use Rattle.semantics.proofs.Tests.{false-true}
 use Rattle.net.specs.Parted.{variablesIn, inputsIn, outputsIn}
-use Rattle.steps.specs.Steps.{fireEnd}
+use Rattle.steps.specs.Steps.{fireEnd, BeginsThen}
 use Rattle.firing.specs.Fire.{FireableAt, IsFiredEnabled}
 use Rattle.firing.proofs.Firing.{enabled-at}
 use Rattle.patch.specs.Patch.{written}
@@ -48,15 +48,18 @@ by-written net part after next (moved m) e =
       leaves = λ r buffer s b f g h. (f, g ∙ n, ap (λ (k : ℕ). take k b) g ∙ h);
     }
 
-module _ {ws ps is os begins : List ℕ} (buffer : List ℕ) (size : ℕ) (spare : List ℕ) {bs : List ℕ} {room : ℕ} (e : room ≡ min (length spare) (length buffer)) {a : Fired} {after : List ℕ} (f : IsFiredEnabled ws ps is os (take size buffer) begins bs (take room spare) a after) where
+module _ {ws ps is os begins : List ℕ} (buffer : List ℕ) (size : ℕ) (spare : List ℕ) {bs : List ℕ} {room : ℕ} (e : room ≡ min (length spare) (length buffer)) {a : Fired} {after begins′ : List ℕ} (f : IsFiredEnabled ws ps is os (take size buffer) begins bs (take room spare) a after begins′) where
   roomy : length (take room spare) ≡ min (length buffer) (length spare)
   roomy = let l = length-take room spare in omega arith
 
   comes : (gs : List ℕ) (q : FireableAt ws ps gs is os (take size buffer) begins bs) → isEnabled houseTable (q .transition) (countsOf (q .entries)) (q .binding) ≡ true → fireEnd a after ≡ firedBy (q .net) (take room spare) (fire houseTable (q .net) (min (length buffer) (length spare)) (q .transition) (countsOf (q .entries)) (q .binding))
-  comes gs q t = f .fired gs (enabled-at q t) .fired q ∙ ap (λ (k : ℕ). firedBy (q .net) (take room spare) (fire houseTable (q .net) k (q .transition) (countsOf (q .entries)) (q .binding))) roomy
+  comes gs q t = f .fired gs (enabled-at q t) .fired q .end ∙ ap (λ (k : ℕ). firedBy (q .net) (take room spare) (fire houseTable (q .net) k (q .transition) (countsOf (q .entries)) (q .binding))) roomy
 
-  pub fired-refused : {n p : ℕ} → a ≡ FireRefused n p → IsFiredAt ws ps is os begins buffer size spare bs (record { refusal = n; length = size }) buffer
-  fired-refused {n} {p} d = record { fired = λ gs q t. let s = by-refused (q .net) (take room spare) after n p (fire houseTable (q .net) (min (length buffer) (length spare)) (q .transition) (countsOf (q .entries)) (q .binding)) (subst (λ (x : Fired). fireEnd x after ≡ firedBy (q .net) (take room spare) (fire houseTable (q .net) (min (length buffer) (length spare)) (q .transition) (countsOf (q .entries)) (q .binding))) d (comes gs q t)) in subst (Leaves (q .net) buffer size (record { refusal = n; length = size }) buffer) (sym s) (refl, refl) }
+  then : (gs : List ℕ) (q : FireableAt ws ps gs is os (take size buffer) begins bs) → isEnabled houseTable (q .transition) (countsOf (q .entries)) (q .binding) ≡ true → BeginsThen (q .net) begins begins′ (fire houseTable (q .net) (min (length buffer) (length spare)) (q .transition) (countsOf (q .entries)) (q .binding))
+  then gs q t = subst (λ (k : ℕ). BeginsThen (q .net) begins begins′ (fire houseTable (q .net) k (q .transition) (countsOf (q .entries)) (q .binding))) roomy (f .fired gs (enabled-at q t) .fired q .begun)
+
+  pub fired-refused : {n p : ℕ} → a ≡ FireRefused n p → IsFiredAt ws ps is os begins buffer size spare bs (record { refusal = n; length = size }) buffer begins′
+  fired-refused {n} {p} d = record { fired = λ gs q t. let s = by-refused (q .net) (take room spare) after n p (fire houseTable (q .net) (min (length buffer) (length spare)) (q .transition) (countsOf (q .entries)) (q .binding)) (subst (λ (x : Fired). fireEnd x after ≡ firedBy (q .net) (take room spare) (fire houseTable (q .net) (min (length buffer) (length spare)) (q .transition) (countsOf (q .entries)) (q .binding))) d (comes gs q t)) in subst (Leaves (q .net) buffer size (record { refusal = n; length = size }) buffer) (sym s) (refl, refl); begun = then }
 
   module _ {next : ℕ} (d : a ≡ Written next) where
     into : (gs : List ℕ) (q : FireableAt ws ps gs is os (take size buffer) begins bs) → isEnabled houseTable (q .transition) (countsOf (q .entries)) (q .binding) ≡ true → Fired-into (q .net) (take room spare) after next (fire houseTable (q .net) (min (length buffer) (length spare)) (q .transition) (countsOf (q .entries)) (q .binding))
@@ -78,8 +81,8 @@ module _ {ws ps is os begins : List ℕ} (buffer : List ℕ) (size : ℕ) (spare
         let k = length-append after rest in
         (omega arith, omega (arith, l, r, e, h, k), omega (arith, e, h))
 
-    pub fired-written : {b : List ℕ} (rest : List ℕ) → length after ≡ length (take room spare) → next ≤ room → b ≡ written buffer 0 (slice 0 next (after ++ rest)) → IsFiredAt ws ps is os begins buffer size spare bs (record { refusal = 0; length = next }) b
-    fired-written {b} rest l h g = record { fired = λ gs q t. let i = into gs q t in i .leaves (record { refusal = 0; length = next }) buffer size b refl refl (front ∙ i .front) }
+    pub fired-written : {b : List ℕ} (rest : List ℕ) → length after ≡ length (take room spare) → next ≤ room → b ≡ written buffer 0 (slice 0 next (after ++ rest)) → IsFiredAt ws ps is os begins buffer size spare bs (record { refusal = 0; length = next }) b begins′
+    fired-written {b} rest l h g = record { fired = λ gs q t. let i = into gs q t in i .leaves (record { refusal = 0; length = next }) buffer size b refl refl (front ∙ i .front); begun = then }
       where
         r : length (take room spare) ≡ min room (length spare)
         r = length-take room spare
@@ -105,7 +108,7 @@ module _ {ws ps : List ℕ} {head : ℕ} {own begins buffer : List ℕ} {size : 
   pub row-fires : Fires ws ps (inputsIn head own) (take (8 + head / 256 % 16 - 8) (drop 8 own)) begins buffer size (take (i * v + v - i * v) (drop (i * v) menu))
   row-fires = rw (part-is 8 (head / 256 % 16) own, part-is (i * v) v menu) (Q .fires)
 
-  pub row-fired : {spare : List ℕ} {r : Picked} {b : List ℕ} → IsFiredAt ws ps (inputsIn head own) (take (8 + head / 256 % 16 - 8) (drop 8 own)) begins buffer size spare (take (i * v + v - i * v) (drop (i * v) menu)) r b → IsFiredAt ws ps (inputsIn head own) (outputsIn head own) begins buffer size spare (row v i menu) r b
+  pub row-fired : {spare : List ℕ} {r : Picked} {b begins′ : List ℕ} → IsFiredAt ws ps (inputsIn head own) (take (8 + head / 256 % 16 - 8) (drop 8 own)) begins buffer size spare (take (i * v + v - i * v) (drop (i * v) menu)) r b begins′ → IsFiredAt ws ps (inputsIn head own) (outputsIn head own) begins buffer size spare (row v i menu) r b begins′
   row-fired f = rw (part-is 8 (head / 256 % 16) own, part-is (i * v) v menu) at f
 
 -- ── The menu ──

@@ -33,15 +33,15 @@ use Rattle.semantics.proofs.Offer.{offer-made}
 use Rattle.semantics.proofs.Enabling.{enabled-complete}
 use Rattle.semantics.proofs.Menu.{menu-members}
 use Rattle.net.specs.Skim.{outline}
-use Rattle.net.specs.Places.{placesAt}
 use Rattle.net.specs.Parted.{variablesIn, inputsIn, outputsIn, guardIn, planIn, Parted}
 use Rattle.net.proofs.Located.{position-at, reads-at, net-transitions}
 use Rattle.net.proofs.Placed.{variables-placed}
 use Rattle.net.proofs.Parted.{head-inside}
-use Rattle.marking.specs.Marked.{markingRead, Begins, Accepted, Indexed}
+use Rattle.marking.specs.Marked.{markingRead}
 use Rattle.semantics.proofs.Partial.{range-length}
 use Rattle.marking.proofs.Bound.{ranged-small}
 use Rattle.occurrence.proofs.Reading.{binding-lent}
+use Rattle.steps.specs.Steps.{BeginsThen}
 use Rattle.firing.specs.Fire.{FireableAt}
 use Rattle.rows.proofs.Rows.{row-room}
 use Rattle.arrivals.specs.World.{World}
@@ -105,7 +105,7 @@ flat-length (x ∷ bs) v h =
 
 -- ── The transition of a pick ──
 
-module _ {ws ps transitions parts buffer : List ℕ} {size w : ℕ} (P : Pickable ws ps transitions parts buffer size w) where
+module _ {ws ps transitions parts begins buffer : List ℕ} {size w : ℕ} (P : Pickable ws ps transitions parts begins buffer size w) where
   abbrev net : Net
   net = netOf (acceptNet ws)
 
@@ -148,167 +148,156 @@ module _ {ws ps transitions parts buffer : List ℕ} {size w : ℕ} (P : Pickabl
   own-long : length own ≡ 32
   own-long = rw (part-is (pickTransition w * 32) 32 parts) (let l = length-drop (pickTransition w * 32) parts in let r = pick-room in length-take-le 32 (drop (pickTransition w * 32) parts) (omega arith))
 
-  -- the marking, by the places where they stand
-  marked-at : markingRead (placesAt ws ps) (take size buffer) ≡ read (P .entries) (P .end)
-  marked-at = subst (λ ps′. markingRead ps′ (take size buffer) ≡ read (P .entries) (P .end)) (P .known .placed) (P .marked)
-
-  pub pick-accepted : Accepted (placesAt ws ps) (take size buffer)
-  pick-accepted = record { entries = P .entries; end = P .end; marked = marked-at }
-
   pub scene-is : sceneOf ws (getD transitions (pickTransition w) 0) (take size buffer) ≡ record { net = net; transition = chosen .0; counts = countsOf (P .entries) }
   unfolding sceneOf
   scene-is = rw (reads .1, P .marked)
 
   -- ── Its menu ──
 
-  module _ {begins : List ℕ} (z : Indexed (placesAt ws ps) (take size buffer) begins) where
-    begun : Begins (net .places) (P .entries) begins
-    begun = subst (λ places. Begins places (P .entries) begins) (sym (P .known .placed)) (z .of (P .entries) (P .end) marked-at)
+  pub pick-lists : Lists ws ps (getD transitions (pickTransition w) 0) head own (take size buffer) begins
+  pick-lists = record { few = parted .few; long = own-long; world = subst (World ws ps (getD transitions (pickTransition w) 0) (variablesIn head) (inputsIn head own) (guardIn head own) (planIn head own) (take size buffer) begins) (sym scene-is) world }
+    where
+      world : World ws ps (getD transitions (pickTransition w) 0) (variablesIn head) (inputsIn head own) (guardIn head own) (planIn head own) (take size buffer) begins (record { net = net; transition = chosen .0; counts = countsOf (P .entries) })
+      world = record {
+        whole = P .known .whole;
+        accepted = P .known .accepted;
+        placed = P .known .placed;
+        fits = P .known .fits;
+        after = reads .0;
+        there = reads .1;
+        many = parted .variables;
+        arcs = parted .inputs;
+        guards = parted .guard;
+        plan = parted .plan;
+        faultless = accepted-planned ws net (P .known .whole) (P .known .accepted) (chosen .0) (at-member (net .transitions) (pickTransition w) (chosen .0) (chosen .1));
+        entries = P .entries;
+        end = P .end;
+        marked = P .marked;
+        counted = refl;
+        begun = P .begun;
+        beginnings = P .full;
+      }
 
-    pub pick-lists : Lists ws ps (getD transitions (pickTransition w) 0) head own (take size buffer) begins
-    pick-lists = record { few = parted .few; long = own-long; world = subst (World ws ps (getD transitions (pickTransition w) 0) (variablesIn head) (inputsIn head own) (guardIn head own) (planIn head own) (take size buffer) begins) (sym scene-is) world }
-      where
-        world : World ws ps (getD transitions (pickTransition w) 0) (variablesIn head) (inputsIn head own) (guardIn head own) (planIn head own) (take size buffer) begins (record { net = net; transition = chosen .0; counts = countsOf (P .entries) })
-        world = record {
-          whole = P .known .whole;
-          accepted = P .known .accepted;
-          placed = P .known .placed;
-          fits = P .known .fits;
+  module _ (budget : ℕ) (spare menus : List ℕ) {a : Listed} {after : List ℕ} (i : IsListed ws (getD transitions (pickTransition w) 0) (take size buffer) budget menus a after) where
+    counts-are : countsIn (markingRead (net .places) (take size buffer)) ≡ countsOf (P .entries)
+    counts-are = rw (P .marked)
+
+    offer-is : menuEnd a after ≡ listedBy menus (offer houseTable net budget (length menus) (chosen .0) (countsOf (P .entries)))
+    offer-is = i .listed ∙ ap (λ (s : Situation). listedBy menus (offer houseTable (s .net) budget (length menus) (s .transition) (s .counts))) scene-is
+
+    pick-is : pick houseTable net (limits budget buffer spare menus) (countsIn (markingRead (net .places) (take size buffer))) w ≡ pickFrom houseTable net (limits budget buffer spare menus) (chosen .0) (countsOf (P .entries)) (pickIndex w) (offer houseTable net budget (length menus) (chosen .0) (countsOf (P .entries)))
+    unfolding pick
+    pick-is = rw (chosen .1, counts-are)
+
+    leaves-by : {r : Picked} {b begins′ : List ℕ} {x : Firing} → pickFrom houseTable net (limits budget buffer spare menus) (chosen .0) (countsOf (P .entries)) (pickIndex w) (offer houseTable net budget (length menus) (chosen .0) (countsOf (P .entries))) ≡ x → Leaves net buffer size r b x → BeginsThen net begins begins′ x → IsPicked ws budget begins buffer size spare menus w r b begins′
+    leaves-by {r} {b} {begins′} e l m = record { picked = subst (Leaves net buffer size r b) (sym (pick-is ∙ e)) l; begun = subst (BeginsThen net begins begins′) (sym (pick-is ∙ e)) m }
+
+    -- 10 and 11
+    pub pick-withheld : {n p : ℕ} → a ≡ MenuRefused n p → IsPicked ws budget begins buffer size spare menus w (record { refusal = n; length = size }) buffer begins
+    pick-withheld {n} {p} d =
+        let o = withheld-is menus after n p (offer houseTable net budget (length menus) (chosen .0) (countsOf (P .entries))) (subst (λ (x : Listed). menuEnd x after ≡ listedBy menus (offer houseTable net budget (length menus) (chosen .0) (countsOf (P .entries)))) d offer-is) in
+        leaves-by (ap (pickFrom houseTable net (limits budget buffer spare menus) (chosen .0) (countsOf (P .entries)) (pickIndex w)) o) (refl, refl) refl
+
+    module _ {n v : ℕ} (d : a ≡ Found n v) where
+      lists : Offered menus after n (offer houseTable net budget (length menus) (chosen .0) (countsOf (P .entries)))
+      lists = offered-is menus after n v (offer houseTable net budget (length menus) (chosen .0) (countsOf (P .entries))) (subst (λ (x : Listed). menuEnd x after ≡ listedBy menus (offer houseTable net budget (length menus) (chosen .0) (countsOf (P .entries)))) d offer-is)
+
+      picks-at : {o : Option (List ℤ)} → getElem? (lists .bindings) (pickIndex w) ≡ o → pickFrom houseTable net (limits budget buffer spare menus) (chosen .0) (countsOf (P .entries)) (pickIndex w) (offer houseTable net budget (length menus) (chosen .0) (countsOf (P .entries))) ≡ fireAt houseTable net (limits budget buffer spare menus) (chosen .0) (countsOf (P .entries)) o
+      picks-at e = ap (pickFrom houseTable net (limits budget buffer spare menus) (chosen .0) (countsOf (P .entries)) (pickIndex w)) (lists .is) ∙ ap (fireAt houseTable net (limits budget buffer spare menus) (chosen .0) (countsOf (P .entries))) e
+
+      -- 12
+      pub pick-past : n ≤ w % 16384 → IsPicked ws budget begins buffer size spare menus w (record { refusal = noSuchIndex; length = size }) buffer begins
+      pick-past h = let m = lists .many in let x = index-is in leaves-by (picks-at (past-elem (lists .bindings) (pickIndex w) (omega arith))) (refl, refl) refl
+
+      -- ── The binding at its index ──
+
+      module _ (h : w % 16384 < n) where
+        abbrev v′ : ℕ
+        v′ = variablesIn head
+
+        picked : (b : List ℤ) × (getElem? (lists .bindings) (w % 16384) ≡ some b)
+        picked = let m = lists .many in length-at (lists .bindings) (w % 16384) (omega arith)
+
+        in-menu : lists .bindings ≡ menu houseTable (chosen .0) (countsOf (P .entries))
+        in-menu = offer-made houseTable net budget (length menus) (chosen .0) (countsOf (P .entries)) (lists .bindings) (lists .tries) (lists .is) .whole
+
+        listed : (b : List ℤ) → List·Memᴰ b (lists .bindings) → (inRanges (chosen .0 .variables) b ≡ true) × Enabled houseTable (chosen .0) (countsOf (P .entries)) b
+        listed b j = menu-members houseTable (chosen .0) (countsOf (P .entries)) b .0 (subst (List·Memᴰ b) in-menu j)
+
+        ranged : (b : List ℤ) → List·Memᴰ b (lists .bindings) → inRanges (chosen .0 .variables) b ≡ true
+        ranged b j = listed b j .0
+
+        sound : SoundTransition (net .places) (chosen .0)
+        sound = transition-sound ws (net .places) (getD transitions (pickTransition w) 0) (chosen .0) (reads .0) (reads .1)
+
+        as-many : v′ ≡ length (chosen .0 .variables)
+        as-many = parted .variables
+
+        wide : Every (λ (b : List ℤ). length b ≡ v′) (lists .bindings)
+        wide = Every-of (λ (b : List ℤ). length b ≡ v′) (lists .bindings) (λ b j. range-length (chosen .0 .variables) b (ranged b j) ∙ sym as-many)
+
+        b-ranged : inRanges (chosen .0 .variables) (picked .0) ≡ true
+        b-ranged = ranged (picked .0) (at-member (lists .bindings) (w % 16384) (picked .0) (picked .1))
+
+        b-enabled : isEnabled houseTable (chosen .0) (countsOf (P .entries)) (picked .0) ≡ true
+        b-enabled = enabled-complete houseTable (chosen .0) (countsOf (P .entries)) (picked .0) (listed (picked .0) (at-member (lists .bindings) (w % 16384) (picked .0) (picked .1)) .1)
+
+        b-words : take v′ (drop ((w % 16384) * v′) after) ≡ map valueWord (picked .0)
+        b-words = ap (λ (l : List ℕ). take v′ (drop ((w % 16384) * v′) l)) (lists .words) ∙ binding-words (lists .bindings) v′ wide (w % 16384) (picked .0) (picked .1) (drop (length (flatMap (map valueWord) (lists .bindings))) menus)
+
+        b-small : Every (λ z. mag z < 8192) (picked .0)
+        b-small = ranged-small ws (length (chosen .0 .variables)) (getD transitions (pickTransition w) 0 + 1) (picked .0) (rw (← variables-placed ws (net .places) (getD transitions (pickTransition w) 0) (chosen .0) (reads .0) (reads .1)) b-ranged)
+
+        fireable : FireableAt ws ps (guardIn head own) (inputsIn head own) (outputsIn head own) (take size buffer) begins (row v′ (w % 16384) after)
+        fireable = record {
+          net = net;
+          at = getD transitions (pickTransition w) 0;
+          transition = chosen .0;
           after = reads .0;
-          there = reads .1;
-          many = parted .variables;
-          arcs = parted .inputs;
-          guards = parted .guard;
-          plan = parted .plan;
-          faultless = accepted-planned ws net (P .known .whole) (P .known .accepted) (chosen .0) (at-member (net .transitions) (pickTransition w) (chosen .0) (chosen .1));
           entries = P .entries;
           end = P .end;
+          binding = picked .0;
+          placed = P .known .placed;
+          there = reads .1;
+          guard-at = parted .guard;
+          inputs-at = parted .inputs;
+          outputs-at = parted .outputs;
+          outputs = Every-of (λ (a : Arc). a .place < length (net .places)) (chosen .0 .outputs) (λ a k. Every-at (SoundArc (net .places) (length (chosen .0 .variables))) (sound .outputs) k .there);
           marked = P .marked;
-          counted = refl;
-          begun = begun;
-          beginnings = z .long;
+          begun = P .begun;
+          many = ap length b-words ∙ length-map (picked .0) valueWord ∙ range-length (chosen .0 .variables) (picked .0) b-ranged;
+          values = binding-lent (row v′ (w % 16384) after) (picked .0) b-words b-small;
         }
 
-    module _ (budget : ℕ) (spare menus : List ℕ) {a : Listed} {after : List ℕ} (i : IsListed ws (getD transitions (pickTransition w) 0) (take size buffer) budget menus a after) where
-      counts-are : countsIn (markingRead (net .places) (take size buffer)) ≡ countsOf (P .entries)
-      counts-are = rw (P .marked)
+        -- the words of the binding stand in the menu
+        inside : (w % 16384) * v′ + v′ ≤ length after
+        inside =
+            let l = ap length (lists .words) ∙ length-append (flatMap (map valueWord) (lists .bindings)) (drop (length (flatMap (map valueWord) (lists .bindings))) menus) in
+            let f = flat-length (lists .bindings) v′ wide in
+            let m = lists .many in
+            row-room (w % 16384) (length (lists .bindings)) v′ (length after) (omega arith) (omega arith)
 
-      offer-is : menuEnd a after ≡ listedBy menus (offer houseTable net budget (length menus) (chosen .0) (countsOf (P .entries)))
-      offer-is = i .listed ∙ ap (λ (s : Situation). listedBy menus (offer houseTable (s .net) budget (length menus) (s .transition) (s .counts))) scene-is
+        few-of : (n : ℕ) (l : List ℕ) → n ≤ 8 → length (take n l) ≤ 8
+        few-of n l h = let m = length-take n l in omega arith
 
-      pick-is : pick houseTable net (limits budget buffer spare menus) (countsIn (markingRead (net .places) (take size buffer))) w ≡ pickFrom houseTable net (limits budget buffer spare menus) (chosen .0) (countsOf (P .entries)) (pickIndex w) (offer houseTable net budget (length menus) (chosen .0) (countsOf (P .entries)))
-      unfolding pick
-      pick-is = rw (chosen .1, counts-are)
+        pub pick-fires : FiresRow ws ps head own begins buffer size after (w % 16384)
+        unfolding fireable
+        pick-fires = record {
+          few = parted .few;
+          long = own-long;
+          within = inside;
+          fires = record {
+            fits = P .known .fits;
+            beginnings = P .full;
+            few-inputs = few-of (head / 16 % 16) own (parted .few .inputs);
+            few-outputs = few-of (head / 256 % 16) (drop 8 own) (parted .few .outputs);
+            inside = P .inside;
+            conjuncts = guardIn head own;
+            fireable = fireable;
+            enabled = b-enabled;
+          };
+        }
 
-      leaves-by : {r : Picked} {b : List ℕ} {x : Firing} → pickFrom houseTable net (limits budget buffer spare menus) (chosen .0) (countsOf (P .entries)) (pickIndex w) (offer houseTable net budget (length menus) (chosen .0) (countsOf (P .entries))) ≡ x → Leaves net buffer size r b x → IsPicked ws budget buffer size spare menus w r b
-      leaves-by {r} {b} e l = record { picked = subst (Leaves net buffer size r b) (sym (pick-is ∙ e)) l }
-
-      -- 10 and 11
-      pub pick-withheld : {n p : ℕ} → a ≡ MenuRefused n p → IsPicked ws budget buffer size spare menus w (record { refusal = n; length = size }) buffer
-      pick-withheld {n} {p} d =
-          let o = withheld-is menus after n p (offer houseTable net budget (length menus) (chosen .0) (countsOf (P .entries))) (subst (λ (x : Listed). menuEnd x after ≡ listedBy menus (offer houseTable net budget (length menus) (chosen .0) (countsOf (P .entries)))) d offer-is) in
-          leaves-by (ap (pickFrom houseTable net (limits budget buffer spare menus) (chosen .0) (countsOf (P .entries)) (pickIndex w)) o) (refl, refl)
-
-      module _ {n v : ℕ} (d : a ≡ Found n v) where
-        lists : Offered menus after n (offer houseTable net budget (length menus) (chosen .0) (countsOf (P .entries)))
-        lists = offered-is menus after n v (offer houseTable net budget (length menus) (chosen .0) (countsOf (P .entries))) (subst (λ (x : Listed). menuEnd x after ≡ listedBy menus (offer houseTable net budget (length menus) (chosen .0) (countsOf (P .entries)))) d offer-is)
-
-        picks-at : {o : Option (List ℤ)} → getElem? (lists .bindings) (pickIndex w) ≡ o → pickFrom houseTable net (limits budget buffer spare menus) (chosen .0) (countsOf (P .entries)) (pickIndex w) (offer houseTable net budget (length menus) (chosen .0) (countsOf (P .entries))) ≡ fireAt houseTable net (limits budget buffer spare menus) (chosen .0) (countsOf (P .entries)) o
-        picks-at e = ap (pickFrom houseTable net (limits budget buffer spare menus) (chosen .0) (countsOf (P .entries)) (pickIndex w)) (lists .is) ∙ ap (fireAt houseTable net (limits budget buffer spare menus) (chosen .0) (countsOf (P .entries))) e
-
-        -- 12
-        pub pick-past : n ≤ w % 16384 → IsPicked ws budget buffer size spare menus w (record { refusal = noSuchIndex; length = size }) buffer
-        pick-past h = let m = lists .many in let x = index-is in leaves-by (picks-at (past-elem (lists .bindings) (pickIndex w) (omega arith))) (refl, refl)
-
-        -- ── The binding at its index ──
-
-        module _ (h : w % 16384 < n) where
-          abbrev v′ : ℕ
-          v′ = variablesIn head
-
-          picked : (b : List ℤ) × (getElem? (lists .bindings) (w % 16384) ≡ some b)
-          picked = let m = lists .many in length-at (lists .bindings) (w % 16384) (omega arith)
-
-          in-menu : lists .bindings ≡ menu houseTable (chosen .0) (countsOf (P .entries))
-          in-menu = offer-made houseTable net budget (length menus) (chosen .0) (countsOf (P .entries)) (lists .bindings) (lists .tries) (lists .is) .whole
-
-          listed : (b : List ℤ) → List·Memᴰ b (lists .bindings) → (inRanges (chosen .0 .variables) b ≡ true) × Enabled houseTable (chosen .0) (countsOf (P .entries)) b
-          listed b j = menu-members houseTable (chosen .0) (countsOf (P .entries)) b .0 (subst (List·Memᴰ b) in-menu j)
-
-          ranged : (b : List ℤ) → List·Memᴰ b (lists .bindings) → inRanges (chosen .0 .variables) b ≡ true
-          ranged b j = listed b j .0
-
-          sound : SoundTransition (net .places) (chosen .0)
-          sound = transition-sound ws (net .places) (getD transitions (pickTransition w) 0) (chosen .0) (reads .0) (reads .1)
-
-          as-many : v′ ≡ length (chosen .0 .variables)
-          as-many = parted .variables
-
-          wide : Every (λ (b : List ℤ). length b ≡ v′) (lists .bindings)
-          wide = Every-of (λ (b : List ℤ). length b ≡ v′) (lists .bindings) (λ b j. range-length (chosen .0 .variables) b (ranged b j) ∙ sym as-many)
-
-          b-ranged : inRanges (chosen .0 .variables) (picked .0) ≡ true
-          b-ranged = ranged (picked .0) (at-member (lists .bindings) (w % 16384) (picked .0) (picked .1))
-
-          b-enabled : isEnabled houseTable (chosen .0) (countsOf (P .entries)) (picked .0) ≡ true
-          b-enabled = enabled-complete houseTable (chosen .0) (countsOf (P .entries)) (picked .0) (listed (picked .0) (at-member (lists .bindings) (w % 16384) (picked .0) (picked .1)) .1)
-
-          b-words : take v′ (drop ((w % 16384) * v′) after) ≡ map valueWord (picked .0)
-          b-words = ap (λ (l : List ℕ). take v′ (drop ((w % 16384) * v′) l)) (lists .words) ∙ binding-words (lists .bindings) v′ wide (w % 16384) (picked .0) (picked .1) (drop (length (flatMap (map valueWord) (lists .bindings))) menus)
-
-          b-small : Every (λ z. mag z < 8192) (picked .0)
-          b-small = ranged-small ws (length (chosen .0 .variables)) (getD transitions (pickTransition w) 0 + 1) (picked .0) (rw (← variables-placed ws (net .places) (getD transitions (pickTransition w) 0) (chosen .0) (reads .0) (reads .1)) b-ranged)
-
-          fireable : FireableAt ws ps (guardIn head own) (inputsIn head own) (outputsIn head own) (take size buffer) begins (row v′ (w % 16384) after)
-          fireable = record {
-            net = net;
-            at = getD transitions (pickTransition w) 0;
-            transition = chosen .0;
-            after = reads .0;
-            entries = P .entries;
-            end = P .end;
-            binding = picked .0;
-            placed = P .known .placed;
-            there = reads .1;
-            guard-at = parted .guard;
-            inputs-at = parted .inputs;
-            outputs-at = parted .outputs;
-            outputs = Every-of (λ (a : Arc). a .place < length (net .places)) (chosen .0 .outputs) (λ a k. Every-at (SoundArc (net .places) (length (chosen .0 .variables))) (sound .outputs) k .there);
-            marked = P .marked;
-            begun = begun;
-            many = ap length b-words ∙ length-map (picked .0) valueWord ∙ range-length (chosen .0 .variables) (picked .0) b-ranged;
-            values = binding-lent (row v′ (w % 16384) after) (picked .0) b-words b-small;
-          }
-
-          -- the words of the binding stand in the menu
-          inside : (w % 16384) * v′ + v′ ≤ length after
-          inside =
-              let l = ap length (lists .words) ∙ length-append (flatMap (map valueWord) (lists .bindings)) (drop (length (flatMap (map valueWord) (lists .bindings))) menus) in
-              let f = flat-length (lists .bindings) v′ wide in
-              let m = lists .many in
-              row-room (w % 16384) (length (lists .bindings)) v′ (length after) (omega arith) (omega arith)
-
-          few-of : (n : ℕ) (l : List ℕ) → n ≤ 8 → length (take n l) ≤ 8
-          few-of n l h = let m = length-take n l in omega arith
-
-          pub pick-fires : FiresRow ws ps head own begins buffer size after (w % 16384)
-          unfolding fireable
-          pick-fires = record {
-            few = parted .few;
-            long = own-long;
-            within = inside;
-            fires = record {
-              fits = P .known .fits;
-              beginnings = z .long;
-              few-inputs = few-of (head / 16 % 16) own (parted .few .inputs);
-              few-outputs = few-of (head / 256 % 16) (drop 8 own) (parted .few .outputs);
-              inside = P .inside;
-              conjuncts = guardIn head own;
-              fireable = fireable;
-              enabled = b-enabled;
-            };
-          }
-
-          pub pick-fired : {r : Picked} {b : List ℕ} → IsFiredAt ws ps (inputsIn head own) (outputsIn head own) begins buffer size spare (row v′ (w % 16384) after) r b → IsPicked ws budget buffer size spare menus w r b
-          unfolding fireable
-          pick-fired f = leaves-by (picks-at (ap (getElem? (lists .bindings)) (sym index-is) ∙ picked .1)) (f .fired (guardIn head own) fireable b-enabled)
+        pub pick-fired : {r : Picked} {b begins′ : List ℕ} → IsFiredAt ws ps (inputsIn head own) (outputsIn head own) begins buffer size spare (row v′ (w % 16384) after) r b begins′ → IsPicked ws budget begins buffer size spare menus w r b begins′
+        unfolding fireable
+        pick-fired f = leaves-by (picks-at (ap (getElem? (lists .bindings)) (sym index-is) ∙ picked .1)) (f .fired (guardIn head own) fireable b-enabled) (f .begun (guardIn head own) fireable b-enabled)

@@ -15,7 +15,8 @@ use Rattle.semantics.specs.Run.{fire, pick}
 use Rattle.semantics.specs.Calls.{limits}
 use Rattle.net.specs.Places.{PlacesFit}
 use Rattle.net.specs.Parted.{variablesIn, inputsIn, outputsIn, guardIn, planIn, FewParts}
-use Rattle.marking.specs.Marked.{markingRead}
+use Rattle.marking.specs.Marked.{markingRead, Begins}
+use Rattle.steps.specs.Steps.{BeginsThen}
 use Rattle.firing.specs.Fire.{FireableAt}
 use Rattle.arrivals.specs.World.{World}
 use Rattle.search.specs.Scene.{netOf, countsIn, sceneOf}
@@ -50,8 +51,9 @@ pub record FiresRow (ws ps : List ℕ) (head : ℕ) (own begins buffer : List �
   pub fires : Fires ws ps (inputsIn head own) (outputsIn head own) begins buffer size (row (variablesIn head) index menu)
 
 -- what is left where an enabled binding is fired, wherever its conjuncts stand
-pub record IsFiredAt (ws ps is os begins buffer : List ℕ) (size : ℕ) (spare bs : List ℕ) (r : Picked) (after : List ℕ) : Type 0 where
+pub record IsFiredAt (ws ps is os begins buffer : List ℕ) (size : ℕ) (spare bs : List ℕ) (r : Picked) (after begins′ : List ℕ) : Type 0 where
   pub fired : (gs : List ℕ) (q : FireableAt ws ps gs is os (take size buffer) begins bs) → isEnabled houseTable (q .transition) (countsOf (q .entries)) (q .binding) ≡ true → Leaves (q .net) buffer size r after (fire houseTable (q .net) (min (length buffer) (length spare)) (q .transition) (countsOf (q .entries)) (q .binding))
+  pub begun : (gs : List ℕ) (q : FireableAt ws ps gs is os (take size buffer) begins bs) → isEnabled houseTable (q .transition) (countsOf (q .entries)) (q .binding) ≡ true → BeginsThen (q .net) begins begins′ (fire houseTable (q .net) (min (length buffer) (length spare)) (q .transition) (countsOf (q .entries)) (q .binding))
 
 -- the menu of the transition at a position may be listed, by its TRANSITION word and its 32 positions
 pub record Lists (ws ps : List ℕ) (position head : ℕ) (own ms begins : List ℕ) : Type 0 where
@@ -59,14 +61,17 @@ pub record Lists (ws ps : List ℕ) (position head : ℕ) (own ms begins : List 
   pub long : length own ≡ 32
   pub world : World ws ps position (variablesIn head) (inputsIn head own) (guardIn head own) (planIn head own) ms begins (sceneOf ws position ms)
 
--- a pick of one of the net's transitions, whose parts were kept, and an accepted marking at the front of a buffer
-pub record Pickable (ws ps transitions parts buffer : List ℕ) (size w : ℕ) : Type 0 where
+-- a pick of one of the net's transitions, whose parts were kept, and an accepted marking at the front of a buffer, with where its places begin
+pub record Pickable (ws ps transitions parts begins buffer : List ℕ) (size w : ℕ) : Type 0 where
   pub known : NetKnown ws ps transitions parts (netOf (acceptNet ws))
   pub inside : size ≤ length buffer
   pub entries : List Entry
   pub end : ℕ
   pub marked : markingRead (netOf (acceptNet ws) .places) (take size buffer) ≡ read entries end
+  pub full : length begins ≡ 65
+  pub begun : Begins (netOf (acceptNet ws) .places) entries begins
   pub there : pickTransition w < length (netOf (acceptNet ws) .transitions)
 
-pub record IsPicked (ws : List ℕ) (budget : ℕ) (buffer : List ℕ) (size : ℕ) (spare menu : List ℕ) (w : ℕ) (r : Picked) (after : List ℕ) : Type 0 where
+pub record IsPicked (ws : List ℕ) (budget : ℕ) (begins buffer : List ℕ) (size : ℕ) (spare menu : List ℕ) (w : ℕ) (r : Picked) (after begins′ : List ℕ) : Type 0 where
   pub picked : Leaves (netOf (acceptNet ws)) buffer size r after (pick houseTable (netOf (acceptNet ws)) (limits budget buffer spare menu) (countsIn (markingRead (netOf (acceptNet ws) .places) (take size buffer))) w)
+  pub begun : BeginsThen (netOf (acceptNet ws)) begins begins′ (pick houseTable (netOf (acceptNet ws)) (limits budget buffer spare menu) (countsIn (markingRead (netOf (acceptNet ws) .places) (take size buffer))) w)

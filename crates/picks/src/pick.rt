@@ -1,6 +1,5 @@
 // One pick: the menu of its transition, the binding at its index, and the marking after it.
 use firing::fire::fire_enabled;
-use marking::begins::index_marking;
 use menus::menu::list_bindings;
 use patch::words::copy_words;
 use semantics::Fired;
@@ -22,14 +21,14 @@ fn fire_at(
     places: &[usize],
     inputs: &[usize],
     outputs: &[usize],
-    begins: &[usize],
+    begins: &mut [usize],
     buffer: &mut [u32],
     length: usize,
     spare: &mut [u32],
     binding: &[u32],
 ) -> Picked
     requires { ⌜ Fires (now net) (now places) (now inputs) (now outputs) (now begins) (now buffer) length (now binding) ⌝ }
-    ensures { λ r. ⌜ IsFiredAt (now (net .entry)) (now (places .entry)) (now (inputs .entry)) (now (outputs .entry)) (now (begins .entry)) (now (buffer .entry)) length (now (spare .entry)) (now (binding .entry)) r (now (buffer .exit)) ⌝ }
+    ensures { λ r. ⌜ IsFiredAt (now (net .entry)) (now (places .entry)) (now (inputs .entry)) (now (outputs .entry)) (now (begins .entry)) (now (buffer .entry)) length (now (spare .entry)) (now (binding .entry)) r (now (buffer .exit)) (now (begins .exit)) ⌝ }
 {
     let room = at_most(buffer.len(), spare.len());
     match fire_enabled(
@@ -62,7 +61,7 @@ fn fire_row(
     places: &[usize],
     head: u32,
     own: &[usize],
-    begins: &[usize],
+    begins: &mut [usize],
     buffer: &mut [u32],
     length: usize,
     spare: &mut [u32],
@@ -70,7 +69,7 @@ fn fire_row(
     index: usize,
 ) -> Picked
     requires { ⌜ FiresRow (now net) (now places) head (now own) (now begins) (now buffer) length (now menu) index ⌝ }
-    ensures { λ r. ⌜ IsFiredAt (now (net .entry)) (now (places .entry)) (inputsIn head (now (own .entry))) (outputsIn head (now (own .entry))) (now (begins .entry)) (now (buffer .entry)) length (now (spare .entry)) (row (variablesIn head) index (now (menu .entry))) r (now (buffer .exit)) ⌝ }
+    ensures { λ r. ⌜ IsFiredAt (now (net .entry)) (now (places .entry)) (inputsIn head (now (own .entry))) (outputsIn head (now (own .entry))) (now (begins .entry)) (now (buffer .entry)) length (now (spare .entry)) (row (variablesIn head) index (now (menu .entry))) r (now (buffer .exit)) (now (begins .exit)) ⌝ }
 {
     let variables = (head % 16) as usize;
     let inputs = (head / 16 % 16) as usize;
@@ -123,21 +122,22 @@ fn list_menu(
 }
 
 // The pick w in a net whose places and transitions stand at these positions, and the parts of the transitions where the table says; the marking is the
-// first words of the buffer.
+// first words of the buffer, and its places begin where `begins` says, before and after.
 pub fn pick_once(
     net: &[u32],
     places: &[usize],
     transitions: &[usize],
     parts: &[usize],
     budget: u32,
+    begins: &mut [usize],
     buffer: &mut [u32],
     length: usize,
     spare: &mut [u32],
     menu: &mut [u32],
     w: u32,
 ) -> Picked
-    requires { ⌜ Pickable (now net) (now places) (now transitions) (now parts) (now buffer) length w ⌝ }
-    ensures { λ r. ⌜ IsPicked (now (net .entry)) budget (now (buffer .entry)) length (now (spare .entry)) (now (menu .entry)) w r (now (buffer .exit)) ⌝ }
+    requires { ⌜ Pickable (now net) (now places) (now transitions) (now parts) (now begins) (now buffer) length w ⌝ }
+    ensures { λ r. ⌜ IsPicked (now (net .entry)) budget (now (begins .entry)) (now (buffer .entry)) length (now (spare .entry)) (now (menu .entry)) w r (now (buffer .exit)) (now (begins .exit)) ⌝ }
 {
     let number = (w / 16384 % 256) as usize;
     let index = (w % 16384) as usize;
@@ -145,8 +145,6 @@ pub fn pick_once(
     let head = net[position];
     let from = number * 32;
     let own = &parts[from..from + 32];
-    let mut begins = [0usize; 65];
-    index_marking(net, places, &buffer[..length], &mut begins);
     match list_menu(
         net,
         places,
@@ -154,7 +152,7 @@ pub fn pick_once(
         head,
         own,
         &buffer[..length],
-        &begins[..],
+        begins,
         budget,
         menu,
     ) {
@@ -174,7 +172,7 @@ pub fn pick_once(
                 places,
                 head,
                 own,
-                &begins[..],
+                begins,
                 buffer,
                 length,
                 spare,

@@ -26,7 +26,9 @@ use Rattle.semantics.proofs.Accepted.{SoundNet, accepted-sound}
 use Rattle.semantics.proofs.Markings.{marking-words, marking-proper}
 use Rattle.semantics.proofs.Run.{Numbered, pick-numbered, further, run-append, run-refused, run-fired}
 use Rattle.semantics.proofs.Reach.{Marks, pick-marks}
-use Rattle.marking.specs.Marked.{markingRead}
+use Rattle.net.specs.Places.{placesAt}
+use Rattle.marking.specs.Marked.{markingRead, Begins, BeginsFor, Accepted, Indexed}
+use Rattle.steps.specs.Steps.{BeginsThen}
 use Rattle.search.specs.Scene.{netOf, countsIn}
 use Rattle.picks.specs.declared.pick.Picked.{Picked}
 use Rattle.picks.specs.Pick.{Leaves, Pickable, IsPicked}
@@ -80,7 +82,11 @@ first ws buffer m = countsIn (markingRead (net ws .places) (take m buffer))
 sound : {ws ps transitions parts buffer : List ℕ} {m : ℕ} {picks : List ℕ} → Runnable ws ps transitions parts buffer m picks → SoundNet (net ws)
 sound {ws} R = accepted-sound ws (net ws) (R .known .whole) (R .known .accepted)
 
-pub record Sofar (ws : List ℕ) (budget : ℕ) (buffer₀ : List ℕ) (m : ℕ) (spare₀ menu₀ picks buffer spare menu : List ℕ) (done size : ℕ) : Type 0 where
+-- the marking that it starts from, by the places where they stand
+pub run-accepted : {ws ps transitions parts buffer : List ℕ} {m : ℕ} {picks : List ℕ} → Runnable ws ps transitions parts buffer m picks → Accepted (placesAt ws ps) (take m buffer)
+run-accepted {buffer = buffer} {m = m} R = record { entries = R .entries; end = R .end; marked = subst (λ places. markingRead places (take m buffer) ≡ read (R .entries) (R .end)) (R .known .placed) (R .marked) }
+
+pub record Sofar (ws : List ℕ) (budget : ℕ) (buffer₀ : List ℕ) (m : ℕ) (spare₀ menu₀ picks begins buffer spare menu : List ℕ) (done size : ℕ) : Type 0 where
   pub many : done ≤ length picks
   pub buffer-kept : length buffer ≡ length buffer₀
   pub spare-kept : length spare ≡ length spare₀
@@ -89,12 +95,14 @@ pub record Sofar (ws : List ℕ) (budget : ℕ) (buffer₀ : List ℕ) (m : ℕ)
   pub entries : List Entry
   pub end : ℕ
   pub marked : markingRead (net ws .places) (take size buffer) ≡ read entries end
+  pub full : length begins ≡ 65
+  pub begun : Begins (net ws .places) entries begins
   pub ran : plainRun houseTable (net ws) (limits budget buffer₀ spare₀ menu₀) (first ws buffer₀ m) 0 (take done picks) ≡ record { counts = countsOf entries; done = done; refusal = 0 }
 
 module _ {ws ps transitions parts : List ℕ} {budget : ℕ} {buffer₀ : List ℕ} {m : ℕ} {spare₀ menu₀ picks : List ℕ} (R : Runnable ws ps transitions parts buffer₀ m picks) where
-  pub sofar-first : Sofar ws budget buffer₀ m spare₀ menu₀ picks buffer₀ spare₀ menu₀ 0 m
-  unfolding plainRun
-  sofar-first = record {
+  pub sofar-first : {begins : List ℕ} → Indexed (placesAt ws ps) (take m buffer₀) begins → Sofar ws budget buffer₀ m spare₀ menu₀ picks begins buffer₀ spare₀ menu₀ 0 m
+  unfolding plainRun run-accepted
+  sofar-first {begins} z = record {
     many = omega arith;
     buffer-kept = refl;
     spare-kept = refl;
@@ -103,10 +111,12 @@ module _ {ws ps transitions parts : List ℕ} {budget : ℕ} {buffer₀ : List �
     entries = R .entries;
     end = R .end;
     marked = R .marked;
+    full = z .long;
+    begun = subst (λ places. Begins places (R .entries) begins) (sym (R .known .placed)) (z .of (R .entries) (R .end) (run-accepted R .marked));
     ran = ap (λ (x : Reading (List Entry)). record { counts = countsIn x; done = 0; refusal = 0 }) (R .marked);
   }
 
-  module _ {buffer spare menu : List ℕ} {done size : ℕ} (S : Sofar ws budget buffer₀ m spare₀ menu₀ picks buffer spare menu done size) where
+  module _ {begins buffer spare menu : List ℕ} {done size : ℕ} (S : Sofar ws budget buffer₀ m spare₀ menu₀ picks begins buffer spare menu done size) where
     reads : readMarking (net ws) (take size buffer) ≡ read (S .entries) (S .end)
     unfolding readMarking markingRead
     reads = S .marked
@@ -127,17 +137,18 @@ module _ {ws ps transitions parts : List ℕ} {budget : ℕ} {buffer₀ : List �
         rw e (record { done = refl; refusal = refl; size = sized; inside = S .inside; words = words })
 
     module _ (h : done < length picks) where
-      pub sofar-pickable : Pickable ws ps transitions parts buffer size (getD picks done 0)
-      sofar-pickable = record { known = R .known; inside = S .inside; entries = S .entries; end = S .end; marked = S .marked; there = every-number (λ w. pickTransition w < length (net ws .transitions)) picks done 0 (R .there) h }
+      pub sofar-pickable : Pickable ws ps transitions parts begins buffer size (getD picks done 0)
+      sofar-pickable = record { known = R .known; inside = S .inside; entries = S .entries; end = S .end; marked = S .marked; full = S .full; begun = S .begun; there = every-number (λ w. pickTransition w < length (net ws .transitions)) picks done 0 (R .there) h }
 
       same-limits : limits budget buffer spare menu ≡ (limits budget buffer₀ spare₀ menu₀)
       same-limits = rw (S .buffer-kept, S .spare-kept, S .menu-kept)
 
-      module _ {r : Picked} {after : List ℕ} (P : IsPicked ws budget buffer size spare menu (getD picks done 0) r after) where
+      module _ {r : Picked} {after begins′ : List ℕ} (P : IsPicked ws budget begins buffer size spare menu (getD picks done 0) r after begins′) where
+        pick-same : pick houseTable (net ws) (limits budget buffer spare menu) (countsIn (markingRead (net ws .places) (take size buffer))) (getD picks done 0) ≡ pick houseTable (net ws) (limits budget buffer₀ spare₀ menu₀) (countsOf (S .entries)) (getD picks done 0)
+        pick-same = ap (λ (x : Reading (List Entry)). pick houseTable (net ws) (limits budget buffer spare menu) (countsIn x) (getD picks done 0)) (S .marked) ∙ ap (λ (x : Limits). pick houseTable (net ws) x (countsOf (S .entries)) (getD picks done 0)) same-limits
+
         picked : Went (net ws) buffer size r after (pick houseTable (net ws) (limits budget buffer₀ spare₀ menu₀) (countsOf (S .entries)) (getD picks done 0))
-        picked =
-            let l = ap (λ (x : Reading (List Entry)). pick houseTable (net ws) (limits budget buffer spare menu) (countsIn x) (getD picks done 0)) (S .marked) ∙ ap (λ (x : Limits). pick houseTable (net ws) x (countsOf (S .entries)) (getD picks done 0)) same-limits in
-            went (net ws) buffer size r after _ (pick-numbered houseTable (net ws) (limits budget buffer₀ spare₀ menu₀) (countsOf (S .entries)) (getD picks done 0)) (subst (Leaves (net ws) buffer size r after) l (P .picked))
+        picked = went (net ws) buffer size r after _ (pick-numbered houseTable (net ws) (limits budget buffer₀ spare₀ menu₀) (countsOf (S .entries)) (getD picks done 0)) (subst (Leaves (net ws) buffer size r after) pick-same (P .picked))
 
         goes-on : plainRun houseTable (net ws) (limits budget buffer₀ spare₀ menu₀) (first ws buffer₀ m) 0 picks ≡ plainRun houseTable (net ws) (limits budget buffer₀ spare₀ menu₀) (countsOf (S .entries)) done (getD picks done 0 ∷ drop (suc done) picks)
         goes-on = onward (getD picks done 0 ∷ drop (suc done) picks) (split-at picks done 0 h)
@@ -151,11 +162,11 @@ module _ {ws ps transitions parts : List ℕ} {budget : ℕ} {buffer₀ : List �
                 let x = goes-on ∙ run-refused houseTable (net ws) (limits budget buffer₀ spare₀ menu₀) (countsOf (S .entries)) done (getD picks done 0) n (drop (suc done) picks) e in
                 rw x (record { done = refl; refusal = z; size = sized; inside = omega (arith, S .inside, l); words = t ∙ words })
 
-        pub sofar-fired : {spare′ menu′ : List ℕ} → r .refusal ≡ 0 → length after ≡ length buffer → length spare′ ≡ length spare → length menu′ ≡ length menu → Sofar ws budget buffer₀ m spare₀ menu₀ picks after spare′ menu′ (done + 1) (r .length)
+        pub sofar-fired : {spare′ menu′ : List ℕ} → r .refusal ≡ 0 → length after ≡ length buffer → length spare′ ≡ length spare → length menu′ ≡ length menu → length begins′ ≡ length begins → Sofar ws budget buffer₀ m spare₀ menu₀ picks begins′ after spare′ menu′ (done + 1) (r .length)
         unfolding readMarking markingRead plainRun
-        sofar-fired {spare′} {menu′} q l s n = by picked
+        sofar-fired {spare′} {menu′} q l s n f = by picked
           where
-            by : Went (net ws) buffer size r after (pick houseTable (net ws) (limits budget buffer₀ spare₀ menu₀) (countsOf (S .entries)) (getD picks done 0)) → Sofar ws budget buffer₀ m spare₀ menu₀ picks after spare′ menu′ (done + 1) (r .length)
+            by : Went (net ws) buffer size r after (pick houseTable (net ws) (limits budget buffer₀ spare₀ menu₀) (countsOf (S .entries)) (getD picks done 0)) → Sofar ws budget buffer₀ m spare₀ menu₀ picks begins′ after spare′ menu′ (done + 1) (r .length)
             by (halted k e z p t) = absurd (omega arith)
             by (fired m′ e z k t) = record {
               many = omega arith;
@@ -166,6 +177,8 @@ module _ {ws ps transitions parts : List ℕ} {budget : ℕ} {buffer₀ : List �
               entries = M .entries;
               end = length (markingWords (net ws) m′);
               marked = marked;
+              full = f ∙ S .full;
+              begun = begun-then .of (M .entries) (length (markingWords (net ws) m′)) (M .marked) (M .counted);
               ran = ran;
             }
               where
@@ -174,6 +187,9 @@ module _ {ws ps transitions parts : List ℕ} {budget : ℕ} {buffer₀ : List �
 
                 marked : markingRead (net ws .places) (take (r .length) after) ≡ read (M .entries) (length (markingWords (net ws) m′))
                 marked = ap (markingRead (net ws .places)) t ∙ M .marked
+
+                begun-then : BeginsFor (net ws) m′ begins′
+                begun-then = subst (BeginsThen (net ws) begins begins′) (pick-same ∙ e) (P .begun)
 
                 one : plainRun houseTable (net ws) (limits budget buffer₀ spare₀ menu₀) (countsOf (S .entries)) done (getD picks done 0 ∷ []) ≡ record { counts = countsOf (M .entries); done = done + 1; refusal = 0 }
                 one = run-fired houseTable (net ws) (limits budget buffer₀ spare₀ menu₀) (countsOf (S .entries)) m′ done (getD picks done 0) [] e ∙ ap (λ (x : Counts). record { counts = x; done = done + 1; refusal = 0 }) (sym (M .counted))

@@ -1,5 +1,6 @@
 // The call run: picks fired one after the other, each from the marking that the one before it left.
 use expression::read::Skipped;
+use marking::begins::index_marking;
 use menus::menu::clear;
 use picks::pick::pick_once;
 use semantics::Outcome;
@@ -16,7 +17,8 @@ pub struct Ended {
     pub length: usize,
 }
 
-// Fires the picks in turn; the first one that is refused ends the run. Where the parts of the transitions begin stands in a table.
+// Fires the picks in turn; the first one that is refused ends the run. Where the parts of the transitions begin stands in a table. Where the places of the
+// marking begin is made out once, and each pick moves it.
 fn fire_picks(
     net: &[u32],
     places: &[usize],
@@ -32,6 +34,8 @@ fn fire_picks(
     requires { ⌜ Runnable (now net) (now places) (now transitions) (now parts) (now buffer) m (now picks) ⌝ }
     ensures { λ r. ⌜ HasRunFrom (now (net .entry)) budget (now (buffer .entry)) m (now (spare .entry)) (now (menu .entry)) (now (picks .entry)) r (now (buffer .exit)) ⌝ }
 {
+    let mut begins = [0usize; 65];
+    index_marking(net, places, &buffer[..m], &mut begins);
     let mut done = 0;
     let mut length = m;
     loop {
@@ -48,6 +52,7 @@ fn fire_picks(
             transitions,
             parts,
             budget,
+            &mut begins,
             buffer,
             length,
             spare,

@@ -1,3 +1,4 @@
 pub mod Listing
 pub mod Measuring
+pub mod Moving
 pub mod Stepped

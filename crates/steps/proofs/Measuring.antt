@@ -90,10 +90,12 @@ module _ {ws ps ik ia ok oa ms begins : List ℕ} (m : Moves ws ps ik ia ok oa b
     measuring-end h =
         let e = keys-none k (ik ++ ok) (all-low m) h in
         let n = a .new-short in
+        let o = a .old-short in
         record {
           over = λ es v. ap not (rw e at (a .limit es v));
           old = λ es v p. let s = rw e at (a .old-same es v) in omega arith;
           new = λ es v p. let s = rw e at (a .new-same es v) in omega arith;
+          old-short = omega arith;
           new-short = omega arith;
         }
 
@@ -108,6 +110,7 @@ module _ {ws ps ik ia ok oa ms begins : List ℕ} (m : Moves ws ps ik ia ok oa b
         over = λ es v. let w = not-true (within ws ps (after ws ps ik ia ok oa es) k) (sym (x .over es v) ∙ t) in ap not (rw (keys-are h, w) at (a .limit es v));
         old = λ es v p. absurd (not-both true refl p);
         new = λ es v p. absurd (not-both true refl p);
+        old-short = omega arith;
         new-short = omega arith;
       }
 

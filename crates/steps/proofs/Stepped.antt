@@ -6,25 +6,26 @@ use Prim.Native.Nat.{ℕ, zero, suc, _+_, _-_, _≤_, _<_}
 use borrow.Author.Tests.{le-leb, lt-leb, not-true, not-false}
 use native.Mathlib.Omega.{arith}
 use lib.IntN.{ℤ}
-use lib.ListN.{length, drop}
+use lib.ListN.{length, getD, drop}
 use Rattle.semantics.specs.declared.Fired.the-variants.{Written, Refused as FireRefused}
 use Rattle.semantics.specs.Refusal.{overCount, overRoom, mostWords}
 use Rattle.semantics.specs.Lists.{Every, every}
 use Rattle.semantics.specs.Reading.{read}
 use Rattle.semantics.specs.Order.{before, Rising}
-use Rattle.semantics.specs.Marking.{Entry, key, Counts, markingWords}
+use Rattle.semantics.specs.Marking.{Entry, key, Counts, countsOf, markingWords}
 use Rattle.semantics.specs.Enabling.{total}
 use Rattle.semantics.proofs.Tests.{Every-at, Every-of}
 use Rattle.semantics.proofs.Markings.{total-some}
-use Rattle.marking.specs.Marked.{markingRead}
+use Rattle.net.proofs.Placed.{places-length}
+use Rattle.marking.specs.Marked.{markingRead, beginOf, BeginsFor}
 use Rattle.arcs.specs.Keys.{keyPlace, keyColour, keyFlows, KeyFits}
 use Rattle.arcs.proofs.Keyed.{keys-before, flow-keyed}
-use Rattle.patch.specs.Patch.{Change, changeKey, patched, Told, Untouched, Changing, InOrder}
-use Rattle.patch.proofs.Patched.{patched-words, patched-ordered, patched-size}
+use Rattle.patch.specs.Patch.{Change, changeKey, patched, oldBelow, newBelow, Told, Untouched, Changing, InOrder}
+use Rattle.patch.proofs.Patched.{begins-low, patched-words, patched-begins, patched-enough, patched-ordered, patched-size}
 use Rattle.steps.specs.declared.step.Listed.{Listed}
 use Rattle.changes.specs.Keys.{sortKeys, keysFrom}
 use Rattle.changes.specs.Changes.{after, within, changeAt, changesFrom}
-use Rattle.steps.specs.Steps.{IsListed, Stepping, Writable, IsWritten, IsStep}
+use Rattle.steps.specs.Steps.{IsListed, Stepping, Writable, IsWritten, Movable, IsMoved, IsStep}
 use Rattle.changes.proofs.Sorted.{Up, sort-in, sort-of, keys-all, keys-up}
 use Rattle.steps.proofs.Measuring.{all-fit}
 
@@ -87,11 +88,20 @@ module _ {ws ps ik ia ok oa ms begins : List ℕ} (q : Stepping ws ps ik ia ok o
     step-words : patched ms 0 all ≡ markingWords (q .net) new
     step-words = patched-words (q .net .places) ms (q .entries) (q .sees .next) marked (q .net) new all changing
 
+    step-enough : (p : ℕ) → oldBelow p all ≤ beginOf (q .entries) p + newBelow p all
+    step-enough = patched-enough (q .net .places) ms (q .entries) (q .sees .next) marked (q .net) new all changing
+
+    step-moved : (es : List Entry) (next : ℕ) → markingRead (q .net .places) (markingWords (q .net) new) ≡ read es next → countsOf es ≡ new → (p : ℕ) → beginOf es p + oldBelow p all ≡ beginOf (q .entries) p + newBelow p all
+    step-moved es next = patched-begins (q .net .places) ms (q .entries) (q .sees .next) marked (q .net) new all changing (markingWords (q .net) new) es next
+
+  begun-at : (p : ℕ) → p ≤ length ps → getD begins p 0 ≡ beginOf (q .entries) p
+  begun-at p h = q .sees .begun .at p (rw (places-length ws ps) h)
+
 -- ── 15, 16, or the new marking ──
 
 module _ {ws ps ik ia ok oa ms begins : List ℕ} {r : Listed} {keys ats olds counts : List ℕ} (x : IsListed ws ps ik ia ok oa ms begins r keys ats olds counts) (buffer : List ℕ) where
-  pub step-over : r .over ≡ true → IsStep ws ps ik ia ok oa ms begins buffer (FireRefused overCount 0) buffer
-  step-over t = record { fired = λ q. let w = not-true (every (within ws ps (after ws ps ik ia ok oa (q .entries))) (keysFrom 0 (ik ++ ok))) (sym (x .measured .over (q .entries) (q .sees)) ∙ t) in rw w }
+  pub step-over : r .over ≡ true → IsStep ws ps ik ia ok oa ms begins buffer (FireRefused overCount 0) buffer begins
+  step-over t = record { fired = λ q. let w = not-true (every (within ws ps (after ws ps ik ia ok oa (q .entries))) (keysFrom 0 (ik ++ ok))) (sym (x .measured .over (q .entries) (q .sees)) ∙ t) in rw w (record { end = refl; begun = refl }) }
 
   module _ (t : r .over ≡ false) where
     step-limited : (q : Stepping ws ps ik ia ok oa ms begins) → every (within ws ps (after ws ps ik ia ok oa (q .entries))) (keysFrom 0 (ik ++ ok)) ≡ true
@@ -104,15 +114,48 @@ module _ {ws ps ik ia ok oa ms begins : List ℕ} {r : Listed} {keys ats olds co
     pub step-more : Stepping ws ps ik ia ok oa ms begins → r .old ≤ length ms + r .new
     step-more q = let s = sized q in omega arith
 
+    -- where places begin can be moved by the rows, and so they begin in the new marking
+    pub movable : Stepping ws ps ik ia ok oa ms begins → Movable ws ps keys olds counts (r .n) begins
+    movable q =
+        let e = x .same (q .entries) (q .sees) t in
+        let o = x .measured .old (q .entries) (q .sees) t in
+        let n = x .measured .new (q .entries) (q .sees) t in
+        let o₁ = x .measured .old-short in
+        let n₁ = x .measured .new-short in
+        record {
+          ats = ats;
+          fits = q .moves .fits;
+          tabled = x .tabled;
+          full = q .moves .begins-full;
+          rises = rw e (changing q (step-limited q) .rises);
+          old-short = rw e (omega arith);
+          new-short = rw e (omega arith);
+          low = λ p h. rw (begun-at q p h) (begins-low (q .net .places) ms (q .entries) (q .sees .next) (marked q) p);
+          enough = λ p h. rw (e, begun-at q p h) (step-enough q (step-limited q) p);
+        }
+
+    step-begins : (q : Stepping ws ps ik ia ok oa ms begins) {begins′ : List ℕ} → IsMoved ws ps keys olds counts (r .n) begins begins′ → BeginsFor (q .net) (after ws ps ik ia ok oa (q .entries)) begins′
+    unfolding movable
+    step-begins q {begins′} y = record {
+      of = λ es next m c. record {
+        at = λ p h.
+            let i : p ≤ length ps = omega (arith, ap length (q .placed) ∙ places-length ws ps) in
+            let s = rw (x .same (q .entries) (q .sees) t) at (y .moves (movable q) p i) in
+            let b = begun-at q p i in
+            let l = step-moved q (step-limited q) es next m c p in
+            omega arith;
+      };
+    }
+
     step-size : (q : Stepping ws ps ik ia ok oa ms begins) → length (markingWords (q .net) (after ws ps ik ia ok oa (q .entries))) ≡ length ms + r .new - r .old
     step-size q = let s = sized q in let l = ap length (step-words q (step-limited q)) in omega arith
 
-    pub step-long : length buffer < length ms + r .new - r .old → IsStep ws ps ik ia ok oa ms begins buffer (FireRefused overRoom 0) buffer
-    step-long h = record { fired = λ q. rw (step-limited q, step-size q, lt-leb (length ms + r .new - r .old) (length buffer) h) }
+    pub step-long : length buffer < length ms + r .new - r .old → IsStep ws ps ik ia ok oa ms begins buffer (FireRefused overRoom 0) buffer begins
+    step-long h = record { fired = λ q. rw (step-limited q, step-size q, lt-leb (length ms + r .new - r .old) (length buffer) h) (record { end = refl; begun = refl }) }
 
     module _ (h : length ms + r .new - r .old ≤ length buffer) where
-      pub step-words-over : mostWords < length ms + r .new - r .old → IsStep ws ps ik ia ok oa ms begins buffer (FireRefused overRoom 0) buffer
-      step-words-over g = record { fired = λ q. rw (step-limited q, step-size q, le-leb (length ms + r .new - r .old) (length buffer) h, lt-leb (length ms + r .new - r .old) mostWords g) }
+      pub step-words-over : mostWords < length ms + r .new - r .old → IsStep ws ps ik ia ok oa ms begins buffer (FireRefused overRoom 0) buffer begins
+      step-words-over g = record { fired = λ q. rw (step-limited q, step-size q, le-leb (length ms + r .new - r .old) (length buffer) h, lt-leb (length ms + r .new - r .old) mostWords g) (record { end = refl; begun = refl }) }
 
       pub writable : Stepping ws ps ik ia ok oa ms begins → Writable ws ps ms keys ats olds counts (r .n) buffer
       writable q =
@@ -120,11 +163,11 @@ module _ {ws ps ik ia ok oa ms begins : List ℕ} {r : Listed} {keys ats olds co
           let s = sized q in
           record { fits = q .moves .fits; tabled = x .tabled; ordered = rw e (step-ordered q (step-limited q)); room = rw e (omega arith) }
 
-      pub step-written : {k : ℕ} {rest : List ℕ} → length ms + r .new - r .old ≤ mostWords → IsWritten ws ps ms keys ats olds counts (r .n) buffer k rest → IsStep ws ps ik ia ok oa ms begins buffer (Written k) rest
-      step-written {k} {rest} g y = record {
+      pub step-written : {k : ℕ} {rest begins′ : List ℕ} → length ms + r .new - r .old ≤ mostWords → IsMoved ws ps keys olds counts (r .n) begins begins′ → IsWritten ws ps ms keys ats olds counts (r .n) buffer k rest → IsStep ws ps ik ia ok oa ms begins buffer (Written k) rest begins′
+      step-written {k} {rest} g z y = record {
         fired = λ q.
             let e = ap (patched ms 0) (x .same (q .entries) (q .sees) t) ∙ step-words q (step-limited q) in
             let words : rest ≡ markingWords (q .net) (after ws ps ik ia ok oa (q .entries)) ++ drop (length (markingWords (q .net) (after ws ps ik ia ok oa (q .entries)))) buffer = y .words ∙ ap (λ (l : List ℕ). l ++ drop (length l) buffer) e in
             let size : k ≡ length (markingWords (q .net) (after ws ps ik ia ok oa (q .entries))) = y .size ∙ ap length e in
-            rw (step-limited q, step-size q, le-leb (length ms + r .new - r .old) (length buffer) h, le-leb (length ms + r .new - r .old) mostWords g) (rw (words, size));
+            rw (step-limited q, step-size q, le-leb (length ms + r .new - r .old) (length buffer) h, le-leb (length ms + r .new - r .old) mostWords g) (record { end = rw (words, size); begun = step-begins q z });
       }

@@ -4,18 +4,21 @@ use mathlib.Core.Path.{_≡_}
 use mathlib.Core.Bool.{true, false, cond, not}
 use mathlib.Core.List.{List, [], _∷_, _++_}
 use Prim.Native.Nat.{ℕ, zero, suc, _+_, _≤_, _<_}
+use lib.Dec.{ltb}
 use lib.ListN.{length, getD, drop}
 use Rattle.semantics.specs.declared.Fired.{Fired}
-use Rattle.semantics.specs.Refusal.{overCount}
+use Rattle.semantics.specs.Refusal.{overCount, mostWords}
 use Rattle.semantics.specs.Lists.{every}
 use Rattle.semantics.specs.Net.{Net}
 use Rattle.semantics.specs.Marking.{Entry, Proper}
-use Rattle.semantics.specs.Enabling.{moved, stopped}
+use Rattle.semantics.specs.Order.{Rising}
+use Rattle.semantics.specs.Enabling.{Firing, moved, stopped}
 use Rattle.semantics.specs.Run.{roomed}
 use Rattle.semantics.specs.Calls.{FireEnd, firedBy}
 use Rattle.net.specs.Places.{placesAt, PlacesFit}
+use Rattle.marking.specs.Marked.{BeginsFor}
 use Rattle.arcs.specs.Keys.{keyPlace, keyColour}
-use Rattle.patch.specs.Patch.{Change, patched, oldLength, newLength, InOrder}
+use Rattle.patch.specs.Patch.{Change, changeKey, patched, oldLength, newLength, oldBelow, newBelow, InOrder}
 use Rattle.steps.specs.declared.step.Listed.{Listed}
 use Rattle.changes.specs.Keys.{keysFrom}
 use Rattle.changes.specs.Changes.{Moves, after, within, changesFrom, Sees}
@@ -24,11 +27,22 @@ use Rattle.changes.specs.Changes.{Moves, after, within, changesFrom, Sees}
 abbrev pub fireEnd : Fired → List ℕ → FireEnd
 fireEnd r buffer = record { answer = r; buffer = buffer }
 
+-- where places begin after a firing: in the new marking, or as they did
+abbrev pub BeginsThen : Net → List ℕ → List ℕ → Firing → Type 0
+BeginsThen net begins begins′ (moved m) = BeginsFor net m begins′
+BeginsThen net begins begins′ (stopped n) = begins′ ≡ begins
+
+-- answer, buffer and beginnings after a firing
+pub record FiredTo (net : Net) (buffer begins : List ℕ) (r : Fired) (rest begins′ : List ℕ) (x : Firing) : Type 0 where
+  pub end : fireEnd r rest ≡ firedBy net buffer x
+  pub begun : BeginsThen net begins begins′ x
+
 -- the words of all old entries and of those that take their place
 pub record IsMeasured (ws ps ik ia ok oa ms begins : List ℕ) (r : Listed) : Type 0 where
   pub over : (es : List Entry) → Sees ws ps ms begins es → r .over ≡ not (every (within ws ps (after ws ps ik ia ok oa es)) (keysFrom 0 (ik ++ ok)))
   pub old : (es : List Entry) → Sees ws ps ms begins es → r .over ≡ false → r .old ≡ oldLength (changesFrom ws ps es (after ws ps ik ia ok oa es) (ik ++ ok) 0)
   pub new : (es : List Entry) → Sees ws ps ms begins es → r .over ≡ false → r .new ≡ newLength (changesFrom ws ps es (after ws ps ik ia ok oa es) (ik ++ ok) 0)
+  pub old-short : r .old ≤ 80
   pub new-short : r .new ≤ 80
 
 -- ── A list of changes, in tables ──
@@ -77,6 +91,28 @@ pub record IsWritten (ws ps ms keys ats olds counts : List ℕ) (n : ℕ) (buffe
   pub words : rest ≡ patched ms 0 (listed ws ps keys ats olds counts n) ++ drop (length (patched ms 0 (listed ws ps keys ats olds counts n))) buffer
   pub size : r ≡ length (patched ms 0 (listed ws ps keys ats olds counts n))
 
+-- ── Where places begin ──
+
+-- the place of a row, or 64 behind the last
+abbrev pub rowPlace : List ℕ → ℕ → ℕ → ℕ
+rowPlace keys n row = cond (ltb row n) (keyPlace (getD keys row 0)) 64
+
+-- the rows rise by key, and the beginnings of the net's places can be moved by them
+pub record Movable (ws ps keys olds counts : List ℕ) (n : ℕ) (begins : List ℕ) : Type 0 where
+  pub ats : List ℕ
+  pub fits : PlacesFit ws ps
+  pub tabled : Tabled ps keys counts n
+  pub full : length begins ≡ 65
+  pub rises : Rising changeKey (listed ws ps keys ats olds counts n)
+  pub old-short : oldLength (listed ws ps keys ats olds counts n) ≤ 80
+  pub new-short : newLength (listed ws ps keys ats olds counts n) ≤ 80
+  pub low : (p : ℕ) → p ≤ length ps → getD begins p 0 ≤ mostWords
+  pub enough : (p : ℕ) → p ≤ length ps → oldBelow p (listed ws ps keys ats olds counts n) ≤ getD begins p 0 + newBelow p (listed ws ps keys ats olds counts n)
+
+-- they are moved
+pub record IsMoved (ws ps keys olds counts : List ℕ) (n : ℕ) (begins begins′ : List ℕ) : Type 0 where
+  pub moves : (q : Movable ws ps keys olds counts n begins) (p : ℕ) → p ≤ length ps → getD begins′ p 0 + oldBelow p (listed ws ps keys (q .ats) olds counts n) ≡ getD begins p 0 + newBelow p (listed ws ps keys (q .ats) olds counts n)
+
 -- ── A step ──
 
 -- a marking of a net; where no count passes the limit, the counts after are proper
@@ -88,6 +124,6 @@ pub record Stepping (ws ps ik ia ok oa ms begins : List ℕ) : Type 0 where
   pub sees : Sees ws ps ms begins entries
   pub proper : every (within ws ps (after ws ps ik ia ok oa entries)) (keysFrom 0 (ik ++ ok)) ≡ true → Proper net (after ws ps ik ia ok oa entries)
 
--- 15 or 16, or the new marking
-pub record IsStep (ws ps ik ia ok oa ms begins : List ℕ) (buffer : List ℕ) (r : Fired) (rest : List ℕ) : Type 0 where
-  pub fired : (q : Stepping ws ps ik ia ok oa ms begins) → fireEnd r rest ≡ firedBy (q .net) buffer (roomed (q .net) (length buffer) (cond (every (within ws ps (after ws ps ik ia ok oa (q .entries))) (keysFrom 0 (ik ++ ok))) (moved (after ws ps ik ia ok oa (q .entries))) (stopped overCount)))
+-- 15 or 16, or the new marking, and where its places begin
+pub record IsStep (ws ps ik ia ok oa ms begins : List ℕ) (buffer : List ℕ) (r : Fired) (rest begins′ : List ℕ) : Type 0 where
+  pub fired : (q : Stepping ws ps ik ia ok oa ms begins) → FiredTo (q .net) buffer begins r rest begins′ (roomed (q .net) (length buffer) (cond (every (within ws ps (after ws ps ik ia ok oa (q .entries))) (keysFrom 0 (ik ++ ok))) (moved (after ws ps ik ia ok oa (q .entries))) (stopped overCount)))

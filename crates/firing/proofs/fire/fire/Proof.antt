@@ -107,10 +107,10 @@ returns-2 c =
 
 returns-3 : tie.Need-returns-3
 returns-3 c =
-    let b = c .before .before .before .before .before .before .before .before .before .before .before .before in
+    let b = c .before .before .before .before .before .before .before .before .before .before .before .before .before in
     let n = b .before .before .before .before .before .before .before .before in
     let r = n .prepare .result .transition in
-    fire-answers (n .prepare .ensures .prepares _ (b .before .before .before .enum-told .given .1)) (n .before .before .before .before .before .before .before .before .args .binding .now) (b .read-binding .result) (b .read-binding .ensures) (c .before .before .before .before .before .before .before .before .before .before .enum-told2 .given .1) (16 + r .conjuncts - 16) (8 + r .outputs - 8) (omega arith) (omega arith) (c .before .before .fire-arcs .ensures)
+    fire-answers (n .prepare .ensures .prepares _ (b .before .before .before .enum-told .given .1)) (n .before .before .before .before .before .before .before .before .args .binding .now) (b .read-binding .result) (b .read-binding .ensures) (c .before .before .before .before .before .before .before .before .before .before .before .enum-told2 .given .1) (16 + r .conjuncts - 16) (8 + r .outputs - 8) (omega arith) (omega arith) (c .before .before .before .fire-arcs .ensures)
 
 pub fire-spec : {M : Type 1} → statement M
 fire-spec =

@@ -17,12 +17,12 @@ slice-aggregate-fire-taken-2 c = sym (c .before .before .gather .ensures .0 .amo
 
 fire-taken-requires : tie.Need-fire-taken-requires
 fire-taken-requires c κs =
-    let p = c .before .before .before .before .before .before .before .before .before .before .before .before .before .before .pre in
+    let p = c .before .before .before .before .before .before .before .before .before .before .before .before .before .before .before .pre in
     let q = p .1 .1 .1 in
-    (p .0, (p .1 .0, (p .1 .1 .0 .1, record { inputs = _; enabled = q; arcs = _; gathered = enabled-gathered (q .fireable) (q .enabled) (c .before .before .before .gather .ensures .0) })))
+    (p .0, (p .1 .0, (p .1 .1 .0 .1, record { inputs = _; enabled = q; arcs = _; gathered = enabled-gathered (q .fireable) (q .enabled) (c .before .before .before .before .gather .ensures .0) })))
 
 returns : tie.Need-returns
-returns c = let q = c .before .before .before .before .before .before .before .before .before .before .before .before .before .before .before .before .before .pre .1 .1 .1 in c .before .before .fire-taken .ensures .fired _ _ (enabled-gathered (q .fireable) (q .enabled) (c .before .before .before .before .before .before .gather .ensures .0))
+returns c = let q = c .before .before .before .before .before .before .before .before .before .before .before .before .before .before .before .before .before .before .before .before .pre .1 .1 .1 in c .before .before .before .before .fire-taken .ensures .fired _ _ (enabled-gathered (q .fireable) (q .enabled) (c .before .before .before .before .before .before .before .before .before .gather .ensures .0))
 
 pub fire-enabled-spec : {M : Type 1} → statement M
 fire-enabled-spec =
@@ -32,5 +32,6 @@ fire-enabled-spec =
     slice-aggregate-fire-taken
     slice-aggregate-fire-taken-2
     fire-taken-requires
+    (λ c. search needs)
     (λ c. search needs)
     returns)

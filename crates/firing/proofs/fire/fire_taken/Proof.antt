@@ -34,16 +34,16 @@ slice-aggregate-fire-keys-4 c = amounts-front (c .before .before .before .before
 
 fire-keys-requires : tie.Need-fire-keys-requires
 fire-keys-requires c κs =
-    let p = c .before .before .before .before .before .before .before .before .before .before .before .before .before .before .before .before .before .before .before .pre in
+    let p = c .before .before .before .before .before .before .before .before .before .before .before .before .before .before .before .before .before .before .before .before .pre in
     let t = p .1 .1 .1 in
-    let o = c .before .before .before .before .before .before .before .gather .ensures .0 in
-    fired-stepping (t .enabled .fireable) (t .enabled .enabled) (t .gathered) o (c .before .before .before .before .before .if1 .left) (gathered-moves (p .0) (p .1 .0) (t .gathered) o)
+    let o = c .before .before .before .before .before .before .before .before .gather .ensures .0 in
+    fired-stepping (t .enabled .fireable) (t .enabled .enabled) (t .gathered) o (c .before .before .before .before .before .before .if1 .left) (gathered-moves (p .0) (p .1 .0) (t .gathered) o)
 
 returns-2 : tie.Need-returns-2
 returns-2 c =
-    let p = c .before .before .before .before .before .before .before .before .before .before .before .before .before .before .before .before .before .before .before .before .before .before .pre in
-    let o = c .before .before .before .before .before .before .before .before .before .before .gather .ensures .0 in
-    record { fired = λ is arcs i. record { fired = λ gs e. record { fired = λ q. fired-step q e i o (c .before .before .before .before .before .before .before .before .if1 .left) (gathered-moves (p .0) (p .1 .0) i o) (c .before .before .fire-keys .ensures) } } }
+    let p = c .before .before .before .before .before .before .before .before .before .before .before .before .before .before .before .before .before .before .before .before .before .before .before .before .before .pre in
+    let o = c .before .before .before .before .before .before .before .before .before .before .before .before .before .gather .ensures .0 in
+    record { fired = λ is arcs i. record { fired = λ gs e. record { fired = λ q. fired-step q e i o (c .before .before .before .before .before .before .before .before .before .before .before .if1 .left) (gathered-moves (p .0) (p .1 .0) i o) (c .before .before .before .before .fire-keys .ensures) } } }
 
 pub fire-taken-spec : {M : Type 1} → statement M
 fire-taken-spec =
@@ -58,5 +58,6 @@ fire-taken-spec =
     array-share-prefix-out-amounts
     slice-aggregate-fire-keys-4
     fire-keys-requires
+    (λ c. search needs)
     (λ c. search needs)
     returns-2)

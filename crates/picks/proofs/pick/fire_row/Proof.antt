@@ -11,10 +11,10 @@ slice-aggregate-fire-at : tie.Need-slice-aggregate-fire-at
 slice-aggregate-fire-at c = let few = (c .before .before .before .before .before .before .before .before .pre) .few .inputs in let l = (c .before .before .before .before .before .before .before .before .pre) .long in sym (length-take-le _ _ (omega arith))
 
 fire-at-requires : tie.Need-fire-at-requires
-fire-at-requires c κs = row-fires (c .before .before .before .before .before .before .before .before .before .before .before .before .pre)
+fire-at-requires c κs = row-fires (c .before .before .before .before .before .before .before .before .before .before .before .before .before .pre)
 
 returns : tie.Need-returns
-returns c = row-fired (c .before .before .before .before .before .before .before .before .before .before .before .before .before .before .before .before .before .pre) ((c .before .before .before .before .fire-at) .ensures)
+returns c = row-fired (c .before .before .before .before .before .before .before .before .before .before .before .before .before .before .before .before .before .before .before .before .pre) (c .before .before .before .before .before .before .fire-at .ensures)
 
 pub fire-row-spec : {M : Type 1} → statement M
 fire-row-spec =
@@ -35,6 +35,7 @@ fire-row-spec =
     (λ c. search needs)
     (λ c. search needs)
     fire-at-requires
+    (λ c. search needs)
     (λ c. search needs)
     (λ c. search needs)
     returns)

@@ -1,46 +1,40 @@
 -- `picks::pick::pick_once` meets its contract: each return is a rule of `Picking`.
-use mathlib.Core.Path.{refl, sym}
+use mathlib.Core.Path.{sym}
 use lib.Seq.{length-take-le}
-use Rattle.picks.proofs.Picking.{among, pick-inside, pick-room, pick-accepted, pick-lists, pick-withheld, pick-past, pick-fires, pick-fired}
+use Rattle.picks.proofs.Picking.{among, pick-inside, pick-room, pick-lists, pick-withheld, pick-past, pick-fires, pick-fired}
 use borrow.Author.Needs.{needs}
 use Rattle.picks.proofs.pick.pick_once.Statement.{statement}
 use Rattle.picks.proofs.pick.pick_once.Tie as tie
 
 shared-slice-read-position : tie.Need-shared-slice-read-position
-shared-slice-read-position c = among (c .before .before .before .before .before .before .before .before .pre)
+shared-slice-read-position c = among (c .before .before .before .before .before .before .before .before .before .pre)
 
 mul-head : tie.Need-mul-head
-mul-head c = let h = pick-inside (c .before .before .before .before .before .before .before .before .pre) in search needs
+mul-head c = let h = pick-inside (c .before .before .before .before .before .before .before .before .before .pre) in search needs
 
 shared-slice-read-head : tie.Need-shared-slice-read-head
-shared-slice-read-head c = pick-inside (c .before .before .before .before .before .before .before .before .before .pre)
+shared-slice-read-head c = pick-inside (c .before .before .before .before .before .before .before .before .before .before .pre)
 
 part-own-end : tie.Need-part-own-end
-part-own-end c = pick-room (c .before .before .before .before .before .before .before .before .before .pre)
-
-slice-aggregate-index-marking : tie.Need-slice-aggregate-index-marking
-slice-aggregate-index-marking c = sym (length-take-le _ _ ((c .before .before .before .before .before .before .before .before .before .before .before .pre) .inside))
-
-index-marking-requires : tie.Need-index-marking-requires
-index-marking-requires c κs = ((c .before .before .before .before .before .before .before .before .before .before .before .before .pre) .known .fits, (refl, pick-accepted (c .before .before .before .before .before .before .before .before .before .before .before .before .pre)))
+part-own-end c = pick-room (c .before .before .before .before .before .before .before .before .before .before .pre)
 
 slice-aggregate-list-menu : tie.Need-slice-aggregate-list-menu
-slice-aggregate-list-menu c = sym (length-take-le _ _ ((c .before .before .before .before .before .before .before .before .before .before .before .before .before .before .pre) .inside))
+slice-aggregate-list-menu c = sym (length-take-le _ _ (c .before .before .before .before .before .before .before .before .before .before .before .before .pre .inside))
 
 list-menu-requires : tie.Need-list-menu-requires
-list-menu-requires c κs = pick-lists (c .before .before .before .before .before .before .before .before .before .before .before .before .before .before .before .before .pre) ((c .before .before .before .index-marking) .ensures)
+list-menu-requires c κs = pick-lists (c .before .before .before .before .before .before .before .before .before .before .before .before .before .before .pre)
 
 returns : tie.Need-returns
-returns c = pick-past (c .before .before .before .before .before .before .before .before .before .before .before .before .before .before .before .before .before .before .before .before .before .before .before .pre) ((c .before .before .before .before .before .before .before .before .before .before .index-marking) .ensures) ((c .before .before .before .before .before .before .before .before .before .before .before .before .before .before .before .before .before .before .before .before .before .before .before .args) .budget) ((c .before .before .before .before .before .before .before .before .before .before .before .before .before .before .before .before .before .before .before .before .before .before .before .args) .spare .now) ((c .before .before .before .before .before .before .before .before .before .before .before .before .before .before .before .before .before .before .before .before .before .before .before .args) .menu .now) ((c .before .before .before .before .before .before .list-menu) .ensures) ((c .before .before .count) .given .1) ((c .if1) .taken)
+returns c = let s = c .before .before .before .before .before .before .before .before .before .before .before .before .before .before .before .before .before .before .before .before .before in pick-past (s .pre) (s .args .budget) (s .args .spare .now) (s .args .menu .now) (c .before .before .before .before .before .before .list-menu .ensures) (c .before .before .count .given .1) (c .if1 .taken)
 
 fire-row-requires : tie.Need-fire-row-requires
-fire-row-requires c κs = pick-fires (c .before .before .before .before .before .before .before .before .before .before .before .before .before .before .before .before .before .before .before .before .before .before .before .before .before .before .before .pre) ((c .before .before .before .before .before .before .before .before .before .before .before .before .before .before .index-marking) .ensures) ((c .before .before .before .before .before .before .before .before .before .before .before .before .before .before .before .before .before .before .before .before .before .before .before .before .before .before .before .args) .budget) ((c .before .before .before .before .before .before .before .before .before .before .before .before .before .before .before .before .before .before .before .before .before .before .before .before .before .before .before .args) .spare .now) ((c .before .before .before .before .before .before .before .before .before .before .before .before .before .before .before .before .before .before .before .before .before .before .before .before .before .before .before .args) .menu .now) ((c .before .before .before .before .before .before .before .before .before .before .list-menu) .ensures) ((c .before .before .before .before .before .before .count) .given .1) ((c .before .before .before .before .if1) .left)
+fire-row-requires c κs = let s = c .before .before .before .before .before .before .before .before .before .before .before .before .before .before .before .before .before .before .before .before .before .before .before .before .before in pick-fires (s .pre) (s .args .budget) (s .args .spare .now) (s .args .menu .now) (c .before .before .before .before .before .before .before .before .before .before .list-menu .ensures) (c .before .before .before .before .before .before .count .given .1) (c .before .before .before .before .if1 .left)
 
 returns-2 : tie.Need-returns-2
-returns-2 c = pick-withheld (c .before .before .before .before .before .before .before .before .before .before .before .before .before .before .before .before .before .before .before .before .before .before .pre) ((c .before .before .before .before .before .before .before .before .before .index-marking) .ensures) ((c .before .before .before .before .before .before .before .before .before .before .before .before .before .before .before .before .before .before .before .before .before .before .args) .budget) ((c .before .before .before .before .before .before .before .before .before .before .before .before .before .before .before .before .before .before .before .before .before .before .args) .spare .now) ((c .before .before .before .before .before .before .before .before .before .before .before .before .before .before .before .before .before .before .before .before .before .before .args) .menu .now) ((c .before .before .before .before .before .list-menu) .ensures) ((c .before .n) .given .1)
+returns-2 c = let s = c .before .before .before .before .before .before .before .before .before .before .before .before .before .before .before .before .before .before .before .before in pick-withheld (s .pre) (s .args .budget) (s .args .spare .now) (s .args .menu .now) (c .before .before .before .before .before .list-menu .ensures) (c .before .n .given .1)
 
 returns-3 : tie.Need-returns-3
-returns-3 c = pick-fired (c .before .before .before .before .before .before .before .before .before .before .before .before .before .before .before .before .before .before .before .before .before .before .before .before .before .before .before .before .before .before .before .before .pre) ((c .before .before .before .before .before .before .before .before .before .before .before .before .before .before .before .before .before .before .before .index-marking) .ensures) ((c .before .before .before .before .before .before .before .before .before .before .before .before .before .before .before .before .before .before .before .before .before .before .before .before .before .before .before .before .before .before .before .before .args) .budget) ((c .before .before .before .before .before .before .before .before .before .before .before .before .before .before .before .before .before .before .before .before .before .before .before .before .before .before .before .before .before .before .before .before .args) .spare .now) ((c .before .before .before .before .before .before .before .before .before .before .before .before .before .before .before .before .before .before .before .before .before .before .before .before .before .before .before .before .before .before .before .before .args) .menu .now) ((c .before .before .before .before .before .before .before .before .before .before .before .before .before .before .before .list-menu) .ensures) ((c .before .before .before .before .before .before .before .before .before .before .before .count) .given .1) ((c .before .before .before .before .before .before .before .before .before .if1) .left) ((c .before .before .before .before .fire-row) .ensures)
+returns-3 c = let s = c .before .before .before .before .before .before .before .before .before .before .before .before .before .before .before .before .before .before .before .before .before .before .before .before .before .before .before .before .before .before .before .before in pick-fired (s .pre) (s .args .budget) (s .args .spare .now) (s .args .menu .now) (c .before .before .before .before .before .before .before .before .before .before .before .before .before .before .before .before .before .list-menu .ensures) (c .before .before .before .before .before .before .before .before .before .before .before .before .before .count .given .1) (c .before .before .before .before .before .before .before .before .before .before .before .if1 .left) (c .before .before .before .before .before .before .fire-row .ensures)
 
 pub pick-once-spec : {M : Type 1} → statement M
 pick-once-spec =
@@ -59,23 +53,21 @@ pick-once-spec =
     (λ c. search needs)
     part-own-end
     (λ c. search needs)
-    slice-aggregate-index-marking
-    index-marking-requires
-    (λ c. search needs)
     slice-aggregate-list-menu
-    (λ c. search needs)
     list-menu-requires
     (λ c. search needs)
     (λ c. search needs)
     (λ c. search needs)
     (λ c. search needs)
     (λ c. search needs)
-    returns
     (λ c. search needs)
+    returns
     fire-row-requires
     (λ c. search needs)
     (λ c. search needs)
+    (λ c. search needs)
     returns-2
+    (λ c. search needs)
     (λ c. search needs)
     (λ c. search needs)
     (λ c. search needs)
