@@ -71,3 +71,32 @@ pub fn gather(
         n: n,
     }
 }
+
+// The same where it is likely that all arcs are known: then nothing is called. A search asks so on every arrival and at every leaf.
+pub fn gather_behind(
+    net: &[u32],
+    places: &[usize],
+    binding: &[u32],
+    ats: &[usize],
+    start: usize,
+    kept: usize,
+    keys: &mut [u64; 8],
+    amounts: &mut [u32; 8],
+) -> Gathered
+    requires { ⌜ PlacesFit (now net) (now places) ⌝ }
+    requires { ⌜ length (now ats) ≤ 8 ⌝ }
+    requires { ⌜ (length (now keys) ≡ 8) × (length (now amounts) ≡ 8) ⌝ }
+    requires { ⌜ Every (HasArc (now net) (now places) (length (now binding))) (now ats) ⌝ }
+    requires { ⌜ Known (now net) (now places) (now binding) (now ats) start kept (now keys) (now amounts) ⌝ }
+    ensures { λ r. ⌜ IsGathered (now (net .entry)) (now (places .entry)) (now (binding .entry)) (now (ats .entry)) r (now (keys .exit)) (now (amounts .exit)) ⌝ }
+    ensures { λ r. ⌜ Keeps kept (now (keys .entry)) (now (amounts .entry)) (now (keys .exit)) (now (amounts .exit)) ⌝ }
+{
+    if ats.len() <= start {
+        return Gathered {
+            some: true,
+            arcs: start,
+            n: kept,
+        };
+    }
+    gather(net, places, binding, ats, start, kept, keys, amounts)
+}

@@ -2,6 +2,7 @@
 use crate::cover::covers;
 use arcs::gather::Gathered;
 use arcs::gather::gather;
+use arcs::gather::gather_behind;
 use guards::guard::guard_holds;
 ghost use mathlib.Core.Path.{_≡_};
 ghost use Prim.Native.Nat.{_≤_};
@@ -115,7 +116,7 @@ pub fn enabled_behind(
     if !guard_holds(net, binding, conjuncts) {
         return false;
     }
-    let all = gather(net, places, binding, inputs, start, kept, keys, amounts);
+    let all = gather_behind(net, places, binding, inputs, start, kept, keys, amounts);
     if !all.some {
         return false;
     }

@@ -1,5 +1,5 @@
 // The search: from a partial binding over the rest of the plan, each try counted against the budget.
-use arcs::gather::gather;
+use arcs::gather::gather_behind;
 use arrivals::step::arrive;
 use arrivals::step::try_at;
 use elements::element::Element;
@@ -79,7 +79,7 @@ pub fn walk(
     );
     let mut keys = [0u64; 8];
     let mut amounts = [0u32; 8];
-    let first = gather(net, places, slots, tested, 0, 0, &mut keys, &mut amounts);
+    let first = gather_behind(net, places, slots, tested, 0, 0, &mut keys, &mut amounts);
     let mut saved = [0u32; 8];
     save(slots, &mut saved);
     let mut cur = s;

@@ -4,7 +4,7 @@ use Rattle.occurrence.proofs.enabled.enabled_behind.Statement.{statemen
 use Rattle.occurrence.proofs.enabled.enabled_behind.Tie as tie
 
 covers-requires : tie.Need-covers-requires
-covers-requires c κs = let p = c .before .before .before .before .before .before .before .before .before .before .before .before .before .before .before .before .before .before .before .before .pre in let x = c .before .before .before .before .before .before .before .before .gather .ensures .0 in (p .0, (p .1 .0, ((keys-few x, keys-paired x), keys-fit x)))
+covers-requires c κs = let p = c .before .before .before .before .before .before .before .before .before .before .before .before .before .before .before .before .before .before .before .before .pre in let x = c .before .before .before .before .before .before .before .before .gather-behind .ensures .0 in (p .0, (p .1 .0, ((keys-few x, keys-paired x), keys-fit x)))
 
 pub enabled-behind-spec : {M : Type 1} → statement M
 enabled-behind-spec =

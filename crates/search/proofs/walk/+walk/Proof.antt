@@ -29,7 +29,7 @@ use Rattle.leaves.proofs.leaf.leaf.Reads as leaf-reads
 use Rattle.search.proofs.walk.element_at.Reads as element-at-reads
 use Rattle.tries.proofs.partial.restore.Reads as restore-reads
 use Rattle.tries.proofs.partial.save.Reads as save-reads
-use Rattle.arcs.proofs.gather.gather.Reads as gather-reads
+use Rattle.arcs.proofs.gather.gather_behind.Reads as gather-behind-reads
 use Rattle.arrivals.proofs.step.arrive.Reads as arrive-reads
 use Rattle.arrivals.proofs.step.try_at.Reads as try-at-reads
 use Rattle.search.proofs.walk.+walk.{statement}
@@ -45,7 +45,7 @@ abbrev walk-below : ℕ → In 10 walk-kinds.ps
 walk-below t = and 10 walk-kinds.ps (falls 10 walk-kinds.ps _<_ μ-walk t) walk.Pre
 
 abbrev calls : ℕ → walk-lts.Claims
-calls t = (element-at-reads.Asked, element-at-reads.Learnt, arrive-reads.Asked, arrive-reads.Learnt, gather-reads.Asked, gather-reads.Learnt, save-reads.Asked, save-reads.Learnt, try-at-reads.Asked, try-at-reads.Learnt, leaf-reads.Asked, leaf-reads.Learnt, walk-below t, walk.Post, restore-reads.Asked, restore-reads.Learnt)
+calls t = (element-at-reads.Asked, element-at-reads.Learnt, arrive-reads.Asked, arrive-reads.Learnt, gather-behind-reads.Asked, gather-behind-reads.Learnt, save-reads.Asked, save-reads.Learnt, try-at-reads.Asked, try-at-reads.Learnt, leaf-reads.Asked, leaf-reads.Learnt, walk-below t, walk.Post, restore-reads.Asked, restore-reads.Learnt)
 
 abbrev walk-Inv-loop : walk-lts.InvT-loop
 walk-Inv-loop net places position variables conjuncts inputs tested elements marking begins depth slots₀ menu₀ most budget parts known step keys₀ amounts₀ first saved cur₀ i₀ slots menu keys amounts cur i =
@@ -70,8 +70,8 @@ walk-arrive-requires t c κs =
     let l = st .pre .1 .1 .0 .1 in
     (W .fits, (W .beginnings, ((omega arith, ranges-fit W), record { full = refl; blank = refl })))
 
-walk-gather-requires : (t : ℕ) → walk-lts.Need-gather-requires (calls t) (walk-at t) walk.Post walk-Inv-loop walk-μ-loop
-walk-gather-requires t c κs =
+walk-gather-behind-requires : (t : ℕ) → walk-lts.Need-gather-behind-requires (calls t) (walk-at t) walk.Post walk-Inv-loop walk-μ-loop
+walk-gather-behind-requires t c κs =
     let st = c .before .before .before .before .before .before .before .before .before .before .before .before .before .before .before .before .before .before .before in
     let W = st .pre .1 .0 in
     let T = st .pre .1 .1 .1 .1 .0 in
@@ -85,7 +85,7 @@ walk-save-requires t c κs =
     (omega arith, refl)
 
 walk-loop-holds : (t : ℕ) → walk-lts.Need-loop-holds (calls t) (walk-at t) walk.Post walk-Inv-loop walk-μ-loop
-walk-loop-holds t c = let st = c .before .before .before .before .before .before .before .before .before .before .before .before .before .before .before .before .before .before .before .before .before .before .before in (trying-start _ _ _ _ _ _ _ _ (st .pre .1 .1 .1 .1 .1 .0) (st .pre .1 .1 .1 .1 .1 .1), (refl, (c .before .before .before .gather .ensures .0 .known, (c .before .before .before .gather .ensures .1 .keys-long, c .before .before .before .gather .ensures .1 .amounts-long))))
+walk-loop-holds t c = let st = c .before .before .before .before .before .before .before .before .before .before .before .before .before .before .before .before .before .before .before .before .before .before .before in (trying-start _ _ _ _ _ _ _ _ (st .pre .1 .1 .1 .1 .1 .0) (st .pre .1 .1 .1 .1 .1 .1), (refl, (c .before .before .before .gather-behind .ensures .0 .known, (c .before .before .before .gather-behind .ensures .1 .keys-long, c .before .before .before .gather-behind .ensures .1 .amounts-long))))
 
 walk-same-length : (t : ℕ) → walk-lts.Need-same-length (calls t) (walk-at t) walk.Post walk-Inv-loop walk-μ-loop
 walk-same-length t c = ap length (c .before .before .before .loop .inv .1 .0)
@@ -171,7 +171,7 @@ walk-went t c =
     ⊎-elim (λ l. went (settled-leaf W (d + 1) (c .before .before .before .before .try-at .last .1 .1 .1 .1 .1 .1 .1 .0) (O .sound) (l .0 .taken) (O .long) (O .settled) (O .unspent) (l .5 .ensures .0)) (l .5 .kept .1 .1 .1 .1 .1 .1 .1 .1 .1 .1 .1 .0) n (l .8) (l .9) (l .12)) (λ r. went (r .3 .ensures .0) (r .3 .kept .1 .1 .1 .1 .1 .1 .1 .1 .1 .1 .1 .1 .0) (r .3 .kept .1 .1 .1 .1 .1 .1 .1 .1 .1 .1 .1 .0 ∙ n) (r .8) (r .9) (r .12)) (c .if4 .came)
 
 -- what is known of the first arcs stays known
-walk-knows : (t : ℕ) (c : walk-lts.Joined4 (calls t) (walk-at t) walk.Post walk-Inv-loop walk-μ-loop) → Known (c .before .before .before .before .before .before .before .before .before .before .before .before .before .before .before .before .before .before .before .before .before .before .before .before .before .before .before .before .before .before .before .before .before .before .before .before .args .net .now) (c .before .before .before .before .before .before .before .before .before .before .before .before .before .before .before .before .before .before .before .before .before .before .before .before .before .before .before .before .before .before .before .before .before .before .before .before .args .places .now) (c .before .before .before .before .before .before .before .before .before .before .before .before .before .before .before .before .before .before .before .before .before .before .before .before .before .before .before .before .before .before .before .before .before .before .before .before .args .slots .now) (c .before .before .before .before .before .before .before .before .before .before .before .before .before .before .before .before .before .before .before .before .before .before .before .before .before .before .before .before .before .before .before .before .before .before .before .before .args .tested .now) (c .before .before .before .before .before .before .before .before .before .before .before .before .before .before .before .before .gather .result .arcs) (c .before .before .before .before .before .before .before .before .before .before .before .before .before .before .before .before .gather .result .n) (c .if4 .keys) (c .if4 .amounts) × ((length (c .if4 .keys) ≡ 8) × (length (c .if4 .amounts) ≡ 8))
+walk-knows : (t : ℕ) (c : walk-lts.Joined4 (calls t) (walk-at t) walk.Post walk-Inv-loop walk-μ-loop) → Known (c .before .before .before .before .before .before .before .before .before .before .before .before .before .before .before .before .before .before .before .before .before .before .before .before .before .before .before .before .before .before .before .before .before .before .before .before .args .net .now) (c .before .before .before .before .before .before .before .before .before .before .before .before .before .before .before .before .before .before .before .before .before .before .before .before .before .before .before .before .before .before .before .before .before .before .before .before .args .places .now) (c .before .before .before .before .before .before .before .before .before .before .before .before .before .before .before .before .before .before .before .before .before .before .before .before .before .before .before .before .before .before .before .before .before .before .before .before .args .slots .now) (c .before .before .before .before .before .before .before .before .before .before .before .before .before .before .before .before .before .before .before .before .before .before .before .before .before .before .before .before .before .before .before .before .before .before .before .before .args .tested .now) (c .before .before .before .before .before .before .before .before .before .before .before .before .before .before .before .before .gather-behind .result .arcs) (c .before .before .before .before .before .before .before .before .before .before .before .before .before .before .before .before .gather-behind .result .n) (c .if4 .keys) (c .if4 .amounts) × ((length (c .if4 .keys) ≡ 8) × (length (c .if4 .amounts) ≡ 8))
 walk-knows t c = ⊎-elim (λ l. (known-same (l .10) (l .11) (known-kept (c .before .before .before .before .before .before .before .before .before .before .before .before .loop .inv .1 .1 .0) (l .5 .ensures .1)), (ap length (l .10) ∙ l .5 .ensures .1 .keys-long ∙ c .before .before .before .before .before .before .before .before .before .before .before .before .loop .inv .1 .1 .1 .0, ap length (l .11) ∙ l .5 .ensures .1 .amounts-long ∙ c .before .before .before .before .before .before .before .before .before .before .before .before .loop .inv .1 .1 .1 .1))) (λ r. (known-same (r .10) (r .11) (c .before .before .before .before .before .before .before .before .before .before .before .before .loop .inv .1 .1 .0), (ap length (r .10) ∙ c .before .before .before .before .before .before .before .before .before .before .before .before .loop .inv .1 .1 .1 .0, ap length (r .11) ∙ c .before .before .before .before .before .before .before .before .before .before .before .before .loop .inv .1 .1 .1 .1))) (c .if4 .came)
 
 walk-restore-requires : (t : ℕ) → walk-lts.Need-restore-requires (calls t) (walk-at t) walk.Post walk-Inv-loop walk-μ-loop
@@ -225,7 +225,7 @@ pub +walk-spec : {M : Type 1} → statement M
     (walk-shared-slice-read-element-at t)
     (walk-element-at-requires t)
     (walk-arrive-requires t)
-    (walk-gather-requires t)
+    (walk-gather-behind-requires t)
     (walk-save-requires t)
     (walk-loop-holds t)
     (walk-same-length t)
