@@ -6,13 +6,13 @@ use mathlib.Core.Logic.{_⊎_, inl, inr}
 use mathlib.Core.Bool.{true, false}
 use mathlib.Core.List.{List, _∷_, map, map-map}
 use mathlib.Core.Option.{Option, some, bind}
-use Prim.Native.Nat.{ℕ, _+_, _<_}
+use Prim.Native.Nat.{ℕ, suc, _+_, _≤_, _<_}
 use native.Mathlib.Omega.{arith}
 use borrow.Author.Tests.{ltb-true, ltb-false}
 use lib.Dec.{ltb}
-use lib.IntN.{ℤ}
+use lib.IntN.{ℤ, pos}
 use lib.ListN.{length, getD, getElem?, set, take, length-map, length-replicate}
-use Rattle.semantics.specs.Expression.{houseTable}
+use Rattle.semantics.specs.Expression.{Expression, constant, houseTable}
 use Rattle.semantics.specs.Reading.{read}
 use Rattle.semantics.specs.Net.{Place, Arc, Conjunct, rangesAt}
 use Rattle.semantics.specs.ReadNet.{readArc, readConjunct}
@@ -26,6 +26,9 @@ use Rattle.semantics.proofs.Accepted.{Valued, SoundArc, SoundTransition, transi
 use Rattle.semantics.proofs.Fitness.{FitMatch, fit-match, FitSolve, fit-solve, FitRange, fit-range}
 use Rattle.word.specs.Fields.{rangeWord}
 use Rattle.net.specs.Places.{rangesFrom, placesAt}
+use Rattle.expression.proofs.Spelled.{HeadWord, headOfTree}
+use Rattle.expression.proofs.Laws.{first-word}
+use Rattle.net.proofs.Standing.{arc-parts}
 use Rattle.net.proofs.Located.{Parts, reads-at, transition-parts}
 use Rattle.net.proofs.Placed.{variables-placed}
 use Rattle.elements.specs.declared.element.Element.{Element}
@@ -39,7 +42,7 @@ use Rattle.matches.specs.Met.{matchedBy}
 use Rattle.net.specs.Standing.{HasConjunct}
 use Rattle.solving.specs.Solve.{solvedAt}
 use Rattle.tries.specs.Range.{valueAt, upFrom}
-use Rattle.arrivals.specs.Step.{Aimed, ReadyBy, Ready, triesOf, triesBy, Told, IsArrival}
+use Rattle.arrivals.specs.Step.{IsTarget, Aims, Aimed, ReadyBy, Ready, triesOf, triesBy, Told, IsArrival}
 use Rattle.arrivals.specs.World.{World}
 use Rattle.arrivals.proofs.Attempting.{up-length}
 use Rattle.tries.proofs.Binding.{range-at}
@@ -84,6 +87,10 @@ module _ {ws ps : List ℕ} {position v : ℕ} {inputs conjuncts elements ms beg
     pub arc-sound : SoundArc (s .net .places) (length (s .transition .variables)) a
     arc-sound = Every-at (SoundArc (s .net .places) (length (s .transition .variables))) (sound .inputs) (at-member (s .transition .inputs) k a e)
 
+    -- the entries of its place stand in the marking
+    entries-inside : (getD begins (a .place) 0 ≤ getD begins (a .place + 1) 0) × (getD begins (a .place + 1) 0 ≤ length ms)
+    entries-inside = place-inside (s .net) ms (w .entries) (w .end) (w .marked) begins (w .begun) (a .place) (arc-sound .there)
+
   -- a conjunct
   module _ (k : ℕ) (c : Conjunct) (e : getElem? (s .transition .guard) k ≡ some c) where
     conjunct-inside : k < length conjuncts
@@ -93,6 +100,20 @@ module _ {ws ps : List ℕ} {position v : ℕ} {inputs conjuncts elements ms beg
     conjunct-here =
         let h = reads-at (λ (c : Conjunct). c .position) (s .transition .guard) conjuncts (w .guards) k c e (readConjunct ws (length (s .transition .variables))) (pieces .guard) in
         (h .0, ap (λ (n : ℕ). readConjunct ws n (getD conjuncts k 0)) (w .many) ∙ h .1)
+
+  -- ── What an element aims at ──
+
+  -- an arc of a match that fits: its coefficient is one CONSTANT, and its place's entries stand in the marking
+  target : (k : ℕ) (a : Arc) → getElem? (s .transition .inputs) k ≡ some a → (n : ℕ) → a .coefficient ≡ constant (pos (suc n)) → IsTarget ws ps v ms begins (getD inputs k 0)
+  target k a e n c =
+      let h = arc-here k a e in
+      let r = arc-parts ws (placesAt ws ps) v (getD inputs k 0) (h .1) in
+      let i = entries-inside k a e in
+      let f = subst (λ (x : Expression). HeadWord (getD ws (getD inputs k 0 + 1) 0) (headOfTree x)) c (first-word ws v (getD inputs k 0 + 1) (r .coefficient)) in
+      record { stands = record { arc = a; next = h .0; reads = h .1 }; short = f .0; up = rw (← r .place) (i .0); inside = rw (← r .place) (i .1) }
+
+  pub aims : (e : Element) (p : Partial) (n : ℕ) (ns : List ℕ) → newlyBound (s .transition) (isBoundIn p) (sorted (e .sort)) ≡ n ∷ ns → Aims ws ps v inputs ms begins e
+  aims e p n ns h = record { target = λ k d l. let f = fit-match (s .transition) (isBoundIn p) k n ns (rw d at h) in target k (f .arc) (f .named) (f .amount) (f .takes) }
 
   -- ── An arrival ──
 
@@ -115,7 +136,7 @@ module _ {ws ps : List ℕ} {position v : ℕ} {inputs conjuncts elements ms beg
     module _ (k : ℕ) (x : Arc) (named : getElem? (s .transition .inputs) k ≡ some x) where
       pub match-aim : Told ws ps position v inputs conjuncts ms begins e parts r (Match k) → Aimed begins x parts r
       match-aim t =
-          let i = place-inside (s .net) ms (w .entries) (w .end) (w .marked) begins (w .begun) (x .place) (arc-sound k x named .there) in
+          let i = entries-inside k x named in
           let h = arc-here k x named in
           t .0 (arc-inside k x named) .aimed x (h .0) (h .1) (i .0) (i .1)
 

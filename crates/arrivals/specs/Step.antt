@@ -5,6 +5,7 @@ use mathlib.Core.List.{List, [], _∷_, map}
 use mathlib.Core.Option.{Option, some}
 use Prim.Native.Nat.{ℕ, _+_, _*_, _-_, _/_, _≤_, _<_}
 use lib.ListN.{length, getD, set, take, replicate}
+use Rattle.semantics.specs.Word.{kind, payload}
 use Rattle.semantics.specs.Expression.{Expression}
 use Rattle.semantics.specs.Reading.{read, several}
 use Rattle.semantics.specs.Net.{Arc}
@@ -19,7 +20,7 @@ use Rattle.counts.specs.Counts.{coloursAt}
 use Rattle.arrivals.specs.declared.step.Step.{Step}
 use Rattle.matches.specs.Met.{matchedBy}
 use Rattle.matches.specs.Known.{Knows}
-use Rattle.net.specs.Standing.{HasConjunct}
+use Rattle.net.specs.Standing.{HasConjunct, HasArc}
 use Rattle.solving.specs.Solve.{solvedAt}
 use Rattle.tries.specs.Range.{valueAt, CountsValues, upFrom}
 
@@ -44,6 +45,17 @@ pub record Blank (parts known : List ℕ) : Type 0 where
 pub record Noted (v : ℕ) (b parts known : List ℕ) : Type 0 where
   pub full : length parts ≡ 4
   pub knows : Knows v b parts known
+
+-- an arc that a match may name stands at a position: its coefficient is one CONSTANT, and the entries of its place stand in the marking
+pub record IsTarget (ws ps : List ℕ) (v : ℕ) (ms begins : List ℕ) (at : ℕ) : Type 0 where
+  pub stands : HasArc ws ps v at
+  pub short : kind (getD ws (at + 1) 0) ≡ 7
+  pub up : getD begins (payload (getD ws at 0)) 0 ≤ getD begins (payload (getD ws at 0) + 1) 0
+  pub inside : getD begins (payload (getD ws at 0) + 1) 0 ≤ length ms
+
+-- an element that is a match names such an arc
+pub record Aims (ws ps : List ℕ) (v : ℕ) (inputs ms begins : List ℕ) (e : Element) : Type 0 where
+  pub target : (k : ℕ) → e .sort ≡ Match k → k < length inputs → IsTarget ws ps v ms begins (getD inputs k 0)
 
 -- what is known of a match of an arc, in a marking with these beginnings, with the first words of its components
 pub record Aimed (begins : List ℕ) (a : Arc) (parts : List ℕ) (r : Step) : Type 0 where

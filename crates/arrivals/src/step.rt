@@ -3,8 +3,6 @@ use elements::element::Element;
 use elements::element::Sort;
 use expression::read::Skipped;
 use expression::read::skip_expression;
-use kinds::take::Taken;
-use kinds::take::take;
 use matches::colour::match_colour;
 use matches::known::differs;
 use matches::known::known_parts;
@@ -18,7 +16,7 @@ ghost use Prim.Native.Nat.{_≤_, _<_, _+_};
 ghost use lib.ListN.{length, getD};
 ghost use Rattle.net.specs.Places.{PlacesFit};
 ghost use Rattle.tries.specs.Partial.{partialOf, IsTried, IsSaved};
-ghost use Rattle.arrivals.specs.Step.{IsParts, Blank, Noted, IsMatch, IsArrival, Safe, Ready, triesBy};
+ghost use Rattle.arrivals.specs.Step.{IsParts, Blank, Noted, IsTarget, Aims, IsMatch, IsArrival, Safe, Ready, triesBy};
 
 // A search step: the element that was arrived at, its number of tries, and what they need: for a match where the entries of its place begin, the
 // components of a colour there; for a solve where its conjunct stands. The first words of the arc's components and the values that are known of them
@@ -64,7 +62,7 @@ fn parts_at(net: &[u32], variables: usize, at: usize, n: usize, parts: &mut [u32
     }
 }
 
-// A match of the arc at a position: a try for each entry of its place.
+// A match of the arc at a position: a try for each entry of its place. Its coefficient is one word, so its components stand behind that.
 fn arrive_match(
     net: &[u32],
     places: &[usize],
@@ -80,39 +78,21 @@ fn arrive_match(
     requires { ⌜ PlacesFit (now net) (now places) ⌝ }
     requires { ⌜ length (now begins) ≡ 65 ⌝ }
     requires { ⌜ variables ≤ length (now slots) ⌝ }
+    requires { ⌜ IsTarget (now net) (now places) variables (now marking) (now begins) at ⌝ }
     requires { ⌜ Blank (now parts) (now known) ⌝ }
     ensures { λ r. ⌜ IsMatch (now (net .entry)) (now (places .entry)) variables (now (marking .entry)) (now (begins .entry)) e at (now (parts .exit)) r × Noted variables (now (slots .entry)) (now (parts .exit)) (now (known .exit)) ⌝ }
 {
-    match take(net, at, 5) {
-        Taken::Word(q) => {
-            let place = q as usize;
-            if places.len() <= place {
-                return no_tries(e);
-            }
-            let from = begins[place];
-            let to = begins[place + 1];
-            if to < from {
-                return no_tries(e);
-            }
-            if marking.len() < to {
-                return no_tries(e);
-            }
-            match skip_expression(net, variables, at + 1) {
-                Skipped::Next(first) => {
-                    let width = payload(net[places[place]]) as usize;
-                    parts_at(net, variables, first, width, parts);
-                    known_parts(variables, slots, width, parts, known);
-                    Step {
-                        element: e,
-                        count: (to - from) / (width + 1),
-                        from: from,
-                        width: width,
-                    }
-                }
-                Skipped::Refused(_, _) => no_tries(e),
-            }
-        }
-        Taken::Refused(_, _) => no_tries(e),
+    let place = payload(net[at]) as usize;
+    let from = begins[place];
+    let to = begins[place + 1];
+    let width = payload(net[places[place]]) as usize;
+    parts_at(net, variables, at + 2, width, parts);
+    known_parts(variables, slots, width, parts, known);
+    Step {
+        element: e,
+        count: (to - from) / (width + 1),
+        from: from,
+        width: width,
     }
 }
 
@@ -134,6 +114,7 @@ pub fn arrive(
     requires { ⌜ PlacesFit (now net) (now places) ⌝ }
     requires { ⌜ length (now begins) ≡ 65 ⌝ }
     requires { ⌜ (variables ≤ length (now slots)) × (position + 1 + variables ≤ length (now net)) ⌝ }
+    requires { ⌜ Aims (now net) (now places) variables (now inputs) (now marking) (now begins) e ⌝ }
     requires { ⌜ Blank (now parts) (now known) ⌝ }
     ensures { λ r. ⌜ IsArrival (now (net .entry)) (now (places .entry)) position variables (now (inputs .entry)) (now (conjuncts .entry)) (now (marking .entry)) (now (begins .entry)) e (now (slots .entry)) (now (parts .exit)) (now (known .exit)) r ⌝ }
 {

@@ -38,9 +38,9 @@ use Rattle.rows.specs.Rows.{valuesOfWords, Listing, listingOf}
 use Rattle.arrivals.specs.declared.step.Step.{Step}
 use Rattle.tries.specs.Partial.{partialOf, IsTried, IsSaved}
 use Rattle.tries.proofs.Slots.{slots-lent}
-use Rattle.arrivals.specs.Step.{Noted, Safe, Ready, triesBy, IsArrival}
+use Rattle.arrivals.specs.Step.{Noted, Aims, Safe, Ready, triesBy, IsArrival}
 use Rattle.arrivals.specs.World.{World}
-use Rattle.arrivals.proofs.Tries.{arrival-ready, arrival-tries, tries-length}
+use Rattle.arrivals.proofs.Tries.{aims, arrival-ready, arrival-tries, tries-length}
 use Rattle.leaves.specs.declared.progress.Progress.{Progress}
 use Rattle.search.specs.Search.{costFrom, rowsFrom, Settling}
 use Rattle.leaves.specs.Leaf.{Held, Unspent, Ended, progress, IsLeaf}
@@ -145,6 +145,14 @@ module _ {ws ps : List ℕ} {position v : ℕ} {inputs conjuncts elements ms beg
       settled-leaf {tested} T u x = leaf-ended (λ q y. told-settled W (subst (λ (es : List Element). Settling s inputs tested es (partialOf v b)) none-left T) (take v b) (full .0) (full .1) (ap length all ∙ l) (full-lent v b (full .0) (full .1)) y) u x
 
   -- ── At an element ──
+
+  -- an element that is a match names an arc that stands there
+  pub aiming : {e : CodeElement} → d < length elements → sorted (e .sort) ≡ sortOf (bits 8 9 (payload (getD ws (getD elements d 0) 0))) (bits 0 7 (payload (getD ws (getD elements d 0) 0))) → Aims ws ps v inputs ms begins e
+  aiming {e} h k =
+      let n = next-element W d h in
+      let f = sound-fits (subst (λ (es : List Element). Sound (s .transition) es (partialOf v b)) (n .ahead) S) in
+      let g : sorted (e .sort) ≡ n .element .sort = k ∙ sym (n .there .sort) in
+      aims W e (partialOf v b) (f .0) (f .1 .0) (rw g (f .1 .1))
 
   -- the tries of a step, and what they come to
   pub record Stepping (parts known : List ℕ) (step : Step) : Type 0 where

@@ -21,7 +21,7 @@ use Rattle.search.specs.Scene.{sceneOf}
 use Rattle.search.specs.Search.{costFrom, rowsFrom}
 use Rattle.search.proofs.Trying.{Trying, trying-start, ended-all, ended-spent, trying-skip, trying-same, ended-stop, trying-turn}
 use Rattle.search.proofs.Worlds.{few-variables, few-inputs, few-elements, ranges-fit, next-element}
-use Rattle.search.proofs.Walking.{Onward, Went, went, ended-same, tested-there, tested-few, leaf-handed, settled-leaf, stepping, known-same, try-on, try-off, try-left, known-behind, back, kept-of, noted-of}
+use Rattle.search.proofs.Walking.{Onward, Went, went, ended-same, tested-there, tested-few, leaf-handed, settled-leaf, aiming, stepping, known-same, try-on, try-off, try-left, known-behind, back, kept-of, noted-of}
 use Rattle.search.proofs.walk.walk.Reads as walk
 use Rattle.search.proofs.walk.walk.Kinds as walk-kinds
 use Rattle.search.proofs.walk.+walk.Lts-walk as walk-lts
@@ -68,7 +68,7 @@ walk-arrive-requires t c κs =
     let st = c .before .before .before .before .before .before .before .before .before .before .before .before .before .before .before in
     let W = st .pre .1 .0 in
     let l = st .pre .1 .1 .0 .1 in
-    (W .fits, (W .beginnings, ((omega arith, ranges-fit W), record { full = refl; blank = refl })))
+    (W .fits, (W .beginnings, ((omega arith, ranges-fit W), (aiming W (st .args .depth) (st .args .slots .now) (st .pre .1 .1 .1 .0) (st .pre .1 .1 .0 .0) (c .before .before .before .element-at .ensures), record { full = refl; blank = refl }))))
 
 walk-gather-behind-requires : (t : ℕ) → walk-lts.Need-gather-behind-requires (calls t) (walk-at t) walk.Post walk-Inv-loop walk-μ-loop
 walk-gather-behind-requires t c κs =
