@@ -1,6 +1,6 @@
 -- The rules of moving where places begin: the rows passed and those ahead are all rows, and since rows rise by place, the rows below a place are just
 -- those that were passed where its turn comes.
-use mathlib.Core.Path.{_≡_, refl, sym, ap, _∙_}
+use mathlib.Core.Path.{_≡_, refl, _∙_}
 use mathlib.Core.Logic.{_⊎_, inl, inr}
 use mathlib.Core.Bool.{true, false}
 use mathlib.Core.List.{List, [], _∷_}
@@ -66,6 +66,7 @@ module _ (ws ps keys olds counts : List ℕ) (n : ℕ) where
     pub new-below : (k : ℕ) → p ≤ k → new + newBelow k (ahead ats row) ≡ newBelow k (listed ws ps keys ats olds counts n)
     pub done : (k : ℕ) → k < p → k ≤ length ps → getD begins k 0 + oldBelow k (listed ws ps keys ats olds counts n) ≡ getD begins₀ k 0 + newBelow k (listed ws ps keys ats olds counts n)
 
+-- the beginnings of the places below p are moved, whatever the positions of the rows' entries
 pub record Moving (ws ps keys olds counts : List ℕ) (n : ℕ) (begins₀ begins : List ℕ) (row p old new : ℕ) : Type 0 where
   pub long : length begins ≡ length begins₀
   pub kept : (k : ℕ) → p ≤ k → getD begins k 0 ≡ getD begins₀ k 0
@@ -87,10 +88,10 @@ module _ {ws ps keys olds counts : List ℕ} {n : ℕ} {begins₀ : List ℕ} wh
             done = λ k h i. let x = rw z at (rest-none ws ps keys olds counts n (q .ats) 0 k (rw z (q .rises)) (omega arith)) in omega (arith, x .0, x .1);
           }
 
-  pub start-low : {r : ℕ} → Movable ws ps keys olds counts n begins₀ → r ≡ rowPlace keys n 0 → r ≤ 64
+  pub start-low : {r : ℕ} → Movable ws ps keys olds counts n begins₀ → r ≡ rowPlace keys n 0 → r ≤ 65
   start-low {r} Q e = by (either (ltb 0 n))
     where
-      by : (ltb 0 n ≡ true) ⊎ (ltb 0 n ≡ false) → r ≤ 64
+      by : (ltb 0 n ≡ true) ⊎ (ltb 0 n ≡ false) → r ≤ 65
       by (inl t) =
           let s = rw t at e in
           let h = Q .tabled .there 0 (ltb-true 0 n t) in
@@ -99,17 +100,14 @@ module _ {ws ps keys olds counts : List ℕ} {n : ℕ} {begins₀ : List ℕ} wh
       by (inr t) = let s = rw t at e in omega arith
 
   module _ {begins : List ℕ} {row p old new : ℕ} (a : Moving ws ps keys olds counts n begins₀ begins row p old new) (Q : Movable ws ps keys olds counts n begins₀) (h : p ≤ length ps) where
-    -- a row below the place
-    module _ {r : ℕ} (e : r ≡ rowPlace keys n row) (t : r < p) where
+    -- a row, not behind the last
+    module _ {r : ℕ} (e : r ≡ rowPlace keys n row) (t : r ≤ 64) where
       pub row-there : row < n
       row-there = by (either (ltb row n))
         where
           by : (ltb row n ≡ true) ⊎ (ltb row n ≡ false) → row < n
           by (inl i) = ltb-true row n i
-          by (inr i) = let few = Q .fits .few in let s = rw i at e in absurd (omega arith)
-
-      below : keyPlace (getD keys row 0) < p
-      below = let s = rw (lt-ltb row n row-there) at e in omega arith
+          by (inr i) = let s = rw i at e in absurd (omega arith)
 
       next : (q : Movable ws ps keys olds counts n begins₀) → ahead ws ps keys olds counts n (q .ats) row ≡ rowAt ws ps keys (q .ats) olds counts row ∷ ahead ws ps keys olds counts n (q .ats) (row + 1)
       next q = rows-next (rowAt ws ps keys (q .ats) olds counts) row n row-there
@@ -126,17 +124,21 @@ module _ {ws ps keys olds counts : List ℕ} {n : ℕ} {begins₀ : List ℕ} wh
         unfolding newLength
         row-new = let s = rw (next Q) at (a .by Q .new-all) in let l = Q .new-short in omega (arith, made)
 
-        pub moving-row : Moving ws ps keys olds counts n begins₀ begins (row + 1) p (old + getD olds row 0) (new + size)
+        -- which is below the place
+        pub moving-row : r < p → Moving ws ps keys olds counts n begins₀ begins (row + 1) p (old + getD olds row 0) (new + size)
         unfolding oldLength newLength oldBelow newBelow
-        moving-row = record { long = a .long; kept = a .kept; by = turn }
+        moving-row b = record { long = a .long; kept = a .kept; by = turn }
           where
+            below : keyPlace (getD keys row 0) < p
+            below = let s = rw (lt-ltb row n row-there) at e in omega arith
+
             turn : (q : Movable ws ps keys olds counts n begins₀) → Ahead ws ps keys olds counts n begins₀ begins (q .ats) (row + 1) p (old + getD olds row 0) (new + size)
             turn q = record {
               rises = (rw (next q) at (a .by q .rises)) .1;
               old-all = let s = rw (next q) at (a .by q .old-all) in omega arith;
               new-all = let s = rw (next q) at (a .by q .new-all) in omega (arith, made);
-              old-below = λ k i. let b = below in let s = rw (next q, lt-ltb (keyPlace (getD keys row 0)) k (omega arith)) at (a .by q .old-below k i) in omega arith;
-              new-below = λ k i. let b = below in let s = rw (next q, lt-ltb (keyPlace (getD keys row 0)) k (omega arith)) at (a .by q .new-below k i) in omega (arith, made);
+              old-below = λ k i. let l = below in let s = rw (next q, lt-ltb (keyPlace (getD keys row 0)) k (omega arith)) at (a .by q .old-below k i) in omega arith;
+              new-below = λ k i. let l = below in let s = rw (next q, lt-ltb (keyPlace (getD keys row 0)) k (omega arith)) at (a .by q .new-below k i) in omega (arith, made);
               done = a .by q .done;
             }
 

@@ -93,9 +93,9 @@ pub record IsWritten (ws ps ms keys ats olds counts : List ℕ) (n : ℕ) (buffe
 
 -- ── Where places begin ──
 
--- the place of a row, or 64 behind the last
+-- the place of a row; behind the last 65, which is above every place and where the last one ends
 abbrev pub rowPlace : List ℕ → ℕ → ℕ → ℕ
-rowPlace keys n row = cond (ltb row n) (keyPlace (getD keys row 0)) 64
+rowPlace keys n row = cond (ltb row n) (keyPlace (getD keys row 0)) 65
 
 -- the rows rise by key, and the beginnings of the net's places can be moved by them
 pub record Movable (ws ps keys olds counts : List ℕ) (n : ℕ) (begins : List ℕ) : Type 0 where

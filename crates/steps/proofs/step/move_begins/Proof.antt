@@ -25,43 +25,43 @@ row-place-requires-2 : tie.Need-row-place-requires-2 Inv-loop μ-loop
 row-place-requires-2 c κs = c .before .before .before .before .before .before .pre .tabled .few
 
 mul-old : tie.Need-mul-old Inv-loop μ-loop
-mul-old c = let f = c .before .before .before .before .before .before .before .before .pre .tabled .few in let i = row-there (c .before .before .before .loop .inv) (c .before .before .before .before .before .before .before .before .pre) (c .before .before .loop-test .taken) (c .before .row-place2 .ensures) (c .if1 .taken) in omega arith
+mul-old c = let f = c .before .before .before .before .before .before .before .before .pre .tabled .few in let i = (let g = c .before .before .before .before .before .before .before .before .pre .fits .few in let h = c .before .before .loop-test .taken in let t = c .if1 .taken in row-there (c .before .before .before .loop .inv) (c .before .before .before .before .before .before .before .before .pre) (c .before .before .loop-test .taken) (c .before .row-place2 .ensures) (omega arith)) in omega arith
 
 element-copy-out-old : tie.Need-element-copy-out-old Inv-loop μ-loop
-element-copy-out-old c = let f = c .before .before .before .before .before .before .before .before .pre .tabled .few in let i = row-there (c .before .before .before .loop .inv) (c .before .before .before .before .before .before .before .before .pre) (c .before .before .loop-test .taken) (c .before .row-place2 .ensures) (c .if1 .taken) in omega arith
+element-copy-out-old c = let f = c .before .before .before .before .before .before .before .before .pre .tabled .few in let i = (let g = c .before .before .before .before .before .before .before .before .pre .fits .few in let h = c .before .before .loop-test .taken in let t = c .if1 .taken in row-there (c .before .before .before .loop .inv) (c .before .before .before .before .before .before .before .before .pre) (c .before .before .loop-test .taken) (c .before .row-place2 .ensures) (omega arith)) in omega arith
 
 add-old : tie.Need-add-old Inv-loop μ-loop
-add-old c = let o = row-old (c .before .before .before .before .loop .inv) (c .before .before .before .before .before .before .before .before .before .pre) (c .before .before .before .loop-test .taken) (c .before .before .row-place2 .ensures) (c .before .if1 .taken) in omega arith
+add-old c = let o = (let g = c .before .before .before .before .before .before .before .before .before .pre .fits .few in let h = c .before .before .before .loop-test .taken in let t = c .before .if1 .taken in row-old (c .before .before .before .before .loop .inv) (c .before .before .before .before .before .before .before .before .before .pre) (c .before .before .before .loop-test .taken) (c .before .before .row-place2 .ensures) (omega arith)) in omega arith
 
 mul-entry-words : tie.Need-mul-entry-words Inv-loop μ-loop
-mul-entry-words c = let f = c .before .before .before .before .before .before .before .before .before .pre .tabled .few in let i = row-there (c .before .before .before .before .loop .inv) (c .before .before .before .before .before .before .before .before .before .pre) (c .before .before .before .loop-test .taken) (c .before .before .row-place2 .ensures) (c .before .if1 .taken) in omega arith
+mul-entry-words c = let f = c .before .before .before .before .before .before .before .before .before .pre .tabled .few in let i = (let g = c .before .before .before .before .before .before .before .before .before .pre .fits .few in let h = c .before .before .before .loop-test .taken in let t = c .before .if1 .taken in row-there (c .before .before .before .before .loop .inv) (c .before .before .before .before .before .before .before .before .before .pre) (c .before .before .before .loop-test .taken) (c .before .before .row-place2 .ensures) (omega arith)) in omega arith
 
 element-copy-out-entry-words : tie.Need-element-copy-out-entry-words Inv-loop μ-loop
-element-copy-out-entry-words c = let f = c .before .before .before .before .before .before .before .before .before .pre .tabled .few in let i = row-there (c .before .before .before .before .loop .inv) (c .before .before .before .before .before .before .before .before .before .pre) (c .before .before .before .loop-test .taken) (c .before .before .row-place2 .ensures) (c .before .if1 .taken) in omega arith
+element-copy-out-entry-words c = let f = c .before .before .before .before .before .before .before .before .before .pre .tabled .few in let i = (let g = c .before .before .before .before .before .before .before .before .before .pre .fits .few in let h = c .before .before .before .loop-test .taken in let t = c .before .if1 .taken in row-there (c .before .before .before .before .loop .inv) (c .before .before .before .before .before .before .before .before .before .pre) (c .before .before .before .loop-test .taken) (c .before .before .row-place2 .ensures) (omega arith)) in omega arith
 
 mul-width-of : tie.Need-mul-width-of Inv-loop μ-loop
-mul-width-of c = let f = c .before .before .before .before .before .before .before .before .before .before .pre .tabled .few in let i = row-there (c .before .before .before .before .before .loop .inv) (c .before .before .before .before .before .before .before .before .before .before .pre) (c .before .before .before .before .loop-test .taken) (c .before .before .before .row-place2 .ensures) (c .before .before .if1 .taken) in omega arith
+mul-width-of c = let f = c .before .before .before .before .before .before .before .before .before .before .pre .tabled .few in let i = (let g = c .before .before .before .before .before .before .before .before .before .before .pre .fits .few in let h = c .before .before .before .before .loop-test .taken in let t = c .before .before .if1 .taken in row-there (c .before .before .before .before .before .loop .inv) (c .before .before .before .before .before .before .before .before .before .before .pre) (c .before .before .before .before .loop-test .taken) (c .before .before .before .row-place2 .ensures) (omega arith)) in omega arith
 
 element-copy-out-width-of : tie.Need-element-copy-out-width-of Inv-loop μ-loop
-element-copy-out-width-of c = let f = c .before .before .before .before .before .before .before .before .before .before .pre .tabled .few in let i = row-there (c .before .before .before .before .before .loop .inv) (c .before .before .before .before .before .before .before .before .before .before .pre) (c .before .before .before .before .loop-test .taken) (c .before .before .before .row-place2 .ensures) (c .before .before .if1 .taken) in omega arith
+element-copy-out-width-of c = let f = c .before .before .before .before .before .before .before .before .before .before .pre .tabled .few in let i = (let g = c .before .before .before .before .before .before .before .before .before .before .pre .fits .few in let h = c .before .before .before .before .loop-test .taken in let t = c .before .before .if1 .taken in row-there (c .before .before .before .before .before .loop .inv) (c .before .before .before .before .before .before .before .before .before .before .pre) (c .before .before .before .before .loop-test .taken) (c .before .before .before .row-place2 .ensures) (omega arith)) in omega arith
 
 width-of-requires : tie.Need-width-of-requires Inv-loop μ-loop
-width-of-requires c κs = (c .before .before .before .before .before .before .before .before .before .before .before .pre .fits, c .before .before .before .before .before .before .before .before .before .before .before .pre .tabled .there _ (row-there (c .before .before .before .before .before .before .loop .inv) (c .before .before .before .before .before .before .before .before .before .before .before .pre) (c .before .before .before .before .before .loop-test .taken) (c .before .before .before .before .row-place2 .ensures) (c .before .before .before .if1 .taken)))
+width-of-requires c κs = (c .before .before .before .before .before .before .before .before .before .before .before .pre .fits, c .before .before .before .before .before .before .before .before .before .before .before .pre .tabled .there _ (let g = c .before .before .before .before .before .before .before .before .before .before .before .pre .fits .few in let h = c .before .before .before .before .before .loop-test .taken in let t = c .before .before .before .if1 .taken in row-there (c .before .before .before .before .before .before .loop .inv) (c .before .before .before .before .before .before .before .before .before .before .before .pre) (c .before .before .before .before .before .loop-test .taken) (c .before .before .before .before .row-place2 .ensures) (omega arith)))
 
 entry-words-requires : tie.Need-entry-words-requires Inv-loop μ-loop
 entry-words-requires c κs = c .width-of .ensures .1
 
 add-new : tie.Need-add-new Inv-loop μ-loop
-add-new c = let o = row-new (c .before .before .before .before .before .before .before .before .loop .inv) (c .before .before .before .before .before .before .before .before .before .before .before .before .before .pre) (c .before .before .before .before .before .before .before .loop-test .taken) (c .before .before .before .before .before .before .row-place2 .ensures) (c .before .before .before .before .before .if1 .taken) (c .before .width-of .ensures .0) (c .entry-words .ensures) in omega arith
+add-new c = let o = (let g = c .before .before .before .before .before .before .before .before .before .before .before .before .before .pre .fits .few in let h = c .before .before .before .before .before .before .before .loop-test .taken in let t = c .before .before .before .before .before .if1 .taken in row-new (c .before .before .before .before .before .before .before .before .loop .inv) (c .before .before .before .before .before .before .before .before .before .before .before .before .before .pre) (c .before .before .before .before .before .before .before .loop-test .taken) (c .before .before .before .before .before .before .row-place2 .ensures) (omega arith) (c .before .width-of .ensures .0) (c .entry-words .ensures)) in omega arith
 
 add-row : tie.Need-add-row Inv-loop μ-loop
-add-row c = let f = c .before .before .before .before .before .before .before .before .before .before .before .before .before .pre .tabled .few in let i = row-there (c .before .before .before .before .before .before .before .before .loop .inv) (c .before .before .before .before .before .before .before .before .before .before .before .before .before .pre) (c .before .before .before .before .before .before .before .loop-test .taken) (c .before .before .before .before .before .before .row-place2 .ensures) (c .before .before .before .before .before .if1 .taken) in omega arith
+add-row c = let f = c .before .before .before .before .before .before .before .before .before .before .before .before .before .pre .tabled .few in let i = (let g = c .before .before .before .before .before .before .before .before .before .before .before .before .before .pre .fits .few in let h = c .before .before .before .before .before .before .before .loop-test .taken in let t = c .before .before .before .before .before .if1 .taken in row-there (c .before .before .before .before .before .before .before .before .loop .inv) (c .before .before .before .before .before .before .before .before .before .before .before .before .before .pre) (c .before .before .before .before .before .before .before .loop-test .taken) (c .before .before .before .before .before .before .row-place2 .ensures) (omega arith)) in omega arith
 
 loop-less : tie.Need-loop-less Inv-loop μ-loop
-loop-less c = let i = row-there (c .before .before .before .before .before .before .before .before .loop .inv) (c .before .before .before .before .before .before .before .before .before .before .before .before .before .pre) (c .before .before .before .before .before .before .before .loop-test .taken) (c .before .before .before .before .before .before .row-place2 .ensures) (c .before .before .before .before .before .if1 .taken) in omega arith
+loop-less c = let i = (let g = c .before .before .before .before .before .before .before .before .before .before .before .before .before .pre .fits .few in let h = c .before .before .before .before .before .before .before .loop-test .taken in let t = c .before .before .before .before .before .if1 .taken in row-there (c .before .before .before .before .before .before .before .before .loop .inv) (c .before .before .before .before .before .before .before .before .before .before .before .before .before .pre) (c .before .before .before .before .before .before .before .loop-test .taken) (c .before .before .before .before .before .before .row-place2 .ensures) (omega arith)) in omega arith
 
 loop-again : tie.Need-loop-again Inv-loop μ-loop
-loop-again c = moving-row (c .before .before .before .before .before .before .before .before .loop .inv) (c .before .before .before .before .before .before .before .before .before .before .before .before .before .pre) (c .before .before .before .before .before .before .before .loop-test .taken) (c .before .before .before .before .before .before .row-place2 .ensures) (c .before .before .before .before .before .if1 .taken) (c .before .width-of .ensures .0) (c .entry-words .ensures)
+loop-again c = let g = c .before .before .before .before .before .before .before .before .before .before .before .before .before .pre .fits .few in let h = c .before .before .before .before .before .before .before .loop-test .taken in let t = c .before .before .before .before .before .if1 .taken in moving-row (c .before .before .before .before .before .before .before .before .loop .inv) (c .before .before .before .before .before .before .before .before .before .before .before .before .before .pre) (c .before .before .before .before .before .before .before .loop-test .taken) (c .before .before .before .before .before .before .row-place2 .ensures) (omega arith) (c .before .width-of .ensures .0) (c .entry-words .ensures) t
 
 mul-begins : tie.Need-mul-begins Inv-loop μ-loop
 mul-begins c = let f = c .before .before .before .before .before .before .before .before .pre .full in let g = c .before .before .before .before .before .before .before .before .pre .fits .few in let l = c .before .before .before .loop .inv .long in let h = c .before .before .loop-test .taken in omega arith

@@ -1,5 +1,4 @@
 -- `steps::step::row_place` meets its contract: by whether there is such a row.
-use native.Mathlib.Omega.{arith}
 use borrow.Author.Needs.{needs}
 use borrow.Author.Tests.{lt-ltb, le-ltb}
 use Rattle.steps.proofs.step.row_place.Statement.{statement}
