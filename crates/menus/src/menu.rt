@@ -11,6 +11,7 @@ ghost use Rattle.semantics.specs.Calls.{menuCall};
 ghost use Rattle.search.specs.Search.{menuEnd};
 ghost use Rattle.arrivals.specs.World.{World};
 ghost use Rattle.search.specs.Scene.{sceneOf};
+ghost use Rattle.spares.specs.Spare.{Unspared};
 ghost use Rattle.menus.specs.Menu.{mostRows, IsListed};
 
 // How many rows of a width fit into a menu of so many words, at most 16,383.
@@ -35,7 +36,7 @@ pub fn clear(buffer: &mut [u32])
 }
 
 // 10 where the tries pass the budget, 11 where the bindings do not fit, and then the menu is cleared; or N and W. The conjuncts, input arcs and
-// elements of the transition stand at these positions.
+// elements of the transition stand at these positions. Leaves look up the arcs at the positions `tested`, which a caller makes out once for a transition.
 pub fn list_bindings(
     net: &[u32],
     places: &[usize],
@@ -43,6 +44,7 @@ pub fn list_bindings(
     variables: usize,
     conjuncts: &[usize],
     inputs: &[usize],
+    tested: &[usize],
     elements: &[usize],
     marking: &[u32],
     begins: &[usize],
@@ -50,11 +52,10 @@ pub fn list_bindings(
     menu: &mut [u32],
 ) -> Listed
     requires { ⌜ World (now net) (now places) position variables (now inputs) (now conjuncts) (now elements) (now marking) (now begins) (sceneOf (now net) position (now marking)) ⌝ }
+    requires { ⌜ Unspared (now net) (now places) (now inputs) (now elements) (now tested) ⌝ }
     ensures { λ r. ⌜ IsListed (now (net .entry)) position (now (marking .entry)) budget (now (menu .entry)) r (now (menu .exit)) ⌝ }
 {
     let mut slots = [0u32; 8];
-    let mut tested = [0usize; 8];
-    let n = leave_out(net, places, inputs, elements, &mut tested);
     let most = most_rows(menu.len(), variables);
     let end = search_plan(
         net,
@@ -63,7 +64,7 @@ pub fn list_bindings(
         variables,
         conjuncts,
         inputs,
-        &tested[..n],
+        tested,
         elements,
         marking,
         begins,
@@ -81,6 +82,41 @@ pub fn list_bindings(
         return Listed::Refused(11, 0);
     }
     Listed::Found(end.rows as u32, end.tries)
+}
+
+// As above for one search of the transition, so the arcs that its leaves look up are made out here.
+fn list_once(
+    net: &[u32],
+    places: &[usize],
+    position: usize,
+    variables: usize,
+    conjuncts: &[usize],
+    inputs: &[usize],
+    elements: &[usize],
+    marking: &[u32],
+    begins: &[usize],
+    budget: u32,
+    menu: &mut [u32],
+) -> Listed
+    requires { ⌜ World (now net) (now places) position variables (now inputs) (now conjuncts) (now elements) (now marking) (now begins) (sceneOf (now net) position (now marking)) ⌝ }
+    ensures { λ r. ⌜ IsListed (now (net .entry)) position (now (marking .entry)) budget (now (menu .entry)) r (now (menu .exit)) ⌝ }
+{
+    let mut tested = [0usize; 8];
+    let n = leave_out(net, places, inputs, elements, &mut tested);
+    list_bindings(
+        net,
+        places,
+        position,
+        variables,
+        conjuncts,
+        inputs,
+        &tested[..n],
+        elements,
+        marking,
+        begins,
+        budget,
+        menu,
+    )
 }
 
 // The first refusal of net, transition and marking, in that order; then as above.
@@ -108,7 +144,7 @@ pub fn menu(net: &[u32], transition: u32, marking: &[u32], budget: u32, menu: &m
             let inputs = t.inputs;
             let elements = t.elements;
             let own = &own[..];
-            list_bindings(
+            list_once(
                 net,
                 &places_at[..places],
                 s.position,

@@ -4,7 +4,7 @@ use mathlib.Core.Bool.{true}
 use mathlib.Core.List.{List, _++_}
 use Prim.Native.Nat.{ℕ, _+_, _-_, _*_, _/_, _%_, min, _≤_}
 use native.Mathlib.Omega.{arith}
-use lib.ListN.{length, take, drop, length-append, length-take}
+use lib.ListN.{length, getD, take, drop, length-append, length-take}
 use lib.Seq.{slice, length-take-le, take-at, take-append-le}
 use Rattle.semantics.specs.declared.Fired.{Fired}
 use Rattle.semantics.specs.declared.Fired.the-variants.{Written, Refused as FireRefused}
@@ -21,6 +21,7 @@ use Rattle.firing.specs.Fire.{FireableAt, IsFiredEnabled}
 use Rattle.firing.proofs.Firing.{enabled-at}
 use Rattle.patch.specs.Patch.{written}
 use Rattle.picks.specs.declared.pick.Picked.{Picked}
+use Rattle.spares.specs.Spare.{Unspared}
 use Rattle.arrivals.specs.World.{World}
 use Rattle.search.specs.Scene.{sceneOf}
 use Rattle.picks.specs.Pick.{Lists, Leaves, Fires, row, FiresRow, IsFiredAt}
@@ -114,5 +115,8 @@ module _ {ws ps : List ℕ} {head : ℕ} {own begins buffer : List ℕ} {size : 
 -- ── The menu ──
 
 -- the parts of a transition, as they are cut out of its positions
-pub parts-listed : {ws ps : List ℕ} {position head : ℕ} {own ms begins : List ℕ} → Lists ws ps position head own ms begins → World ws ps position (variablesIn head) (inputsIn head own) (take (16 + head / 4096 % 16 - 16) (drop 16 own)) (take (24 + head / 65536 % 16 - 24) (drop 24 own)) ms begins (sceneOf ws position ms)
+pub parts-listed : {ws ps : List ℕ} {position head : ℕ} {own rest ms begins : List ℕ} → Lists ws ps position head own rest ms begins → World ws ps position (variablesIn head) (inputsIn head own) (take (16 + head / 4096 % 16 - 16) (drop 16 own)) (take (24 + head / 65536 % 16 - 24) (drop 24 own)) ms begins (sceneOf ws position ms)
 parts-listed {head = head} {own = own} L = rw (part-is 16 (head / 4096 % 16) own, part-is 24 (head / 65536 % 16) own) (L .world)
+
+pub arcs-tested : {ws ps : List ℕ} {position head : ℕ} {own rest ms begins : List ℕ} → Lists ws ps position head own rest ms begins → Unspared ws ps (inputsIn head own) (take (24 + head / 65536 % 16 - 24) (drop 24 own)) (take (getD rest 8 0) rest)
+arcs-tested {head = head} {own = own} L = rw (part-is 24 (head / 65536 % 16) own) (L .tested .unspared)

@@ -1,2 +1,4 @@
 pub mod Firing
+pub mod Chosen
+pub mod Resting
 pub mod Picking

@@ -6,11 +6,11 @@ use mathlib.Core.Bool.{true}
 use mathlib.Core.Option.{Option, some}
 use Prim.Native.Nat.{ℕ, zero, suc, _+_, _*_, _-_, _/_, _%_, _≤_, _<_}
 use native.Mathlib.Omega.{arith}
-use native.Mathlib.Nat.{suc-mul, zero-mul, zero-add}
+use native.Mathlib.Nat.{suc-mul, zero-mul}
 use lib.IntN.{ℤ}
 use lib.Signed.{mag}
-use lib.ListN.{length, getD, getElem?, take, drop, length-map, length-append, length-take, length-drop}
-use lib.Seq.{length-take-le, take-at, drop-at, drop-drop}
+use lib.ListN.{length, getD, getElem?, take, drop, length-map, length-append, length-take}
+use lib.Seq.{take-at, drop-at, drop-drop}
 use Rattle.semantics.specs.declared.Listed.{Listed}
 use Rattle.semantics.specs.declared.Listed.the-variants.{Found, Refused as MenuRefused}
 use Rattle.semantics.specs.Refusal.{noSuchIndex}
@@ -28,15 +28,13 @@ use Rattle.semantics.specs.Run.{menu, Offer, offered, withheld, offer, fireAt, 
 use Rattle.semantics.specs.Calls.{Situation, MenuEnd, listedBy, limits}
 use Rattle.semantics.proofs.Tests.{false-true, Every-at, Every-of}
 use Rattle.semantics.proofs.Members.{none-some, length-at, at-member, past-elem}
-use Rattle.semantics.proofs.Accepted.{SoundArc, SoundTransition, transition-sound, accepted-read, accepted-sound, accepted-planned}
+use Rattle.semantics.proofs.Accepted.{SoundArc, SoundTransition, transition-sound, accepted-planned}
 use Rattle.semantics.proofs.Offer.{offer-made}
 use Rattle.semantics.proofs.Enabling.{enabled-complete}
 use Rattle.semantics.proofs.Menu.{menu-members}
 use Rattle.net.specs.Skim.{outline}
 use Rattle.net.specs.Parted.{variablesIn, inputsIn, outputsIn, guardIn, planIn, Parted}
-use Rattle.net.proofs.Located.{position-at, reads-at, net-transitions}
 use Rattle.net.proofs.Placed.{variables-placed}
-use Rattle.net.proofs.Parted.{head-inside}
 use Rattle.marking.specs.Marked.{markingRead}
 use Rattle.semantics.proofs.Partial.{range-length}
 use Rattle.marking.proofs.Bound.{ranged-small}
@@ -50,7 +48,9 @@ use Rattle.search.specs.Search.{menuEnd}
 use Rattle.menus.specs.Menu.{IsListed}
 use Rattle.picks.specs.declared.pick.Picked.{Picked}
 use Rattle.picks.specs.Pick.{Leaves, row, FiresRow, Lists, IsFiredAt, Pickable, IsPicked}
+use Rattle.picks.specs.Rests.{Rest}
 use Rattle.picks.proofs.Firing.{part-is}
+use Rattle.picks.proofs.Chosen as known
 
 -- ── What was listed ──
 
@@ -105,7 +105,7 @@ flat-length (x ∷ bs) v h =
 
 -- ── The transition of a pick ──
 
-module _ {ws ps transitions parts begins buffer : List ℕ} {size w : ℕ} (P : Pickable ws ps transitions parts begins buffer size w) where
+module _ {ws ps transitions parts rests begins buffer : List ℕ} {size w : ℕ} (P : Pickable ws ps transitions parts rests begins buffer size w) where
   abbrev net : Net
   net = netOf (acceptNet ws)
 
@@ -113,17 +113,14 @@ module _ {ws ps transitions parts begins buffer : List ℕ} {size w : ℕ} (P : 
   index-is : w % 16384 ≡ pickIndex w
   index-is = omega arith
 
-  pub chosen : (t : Transition) × (getElem? (net .transitions) (pickTransition w) ≡ some t)
-  chosen = length-at (net .transitions) (pickTransition w) (P .there)
+  abbrev pub chosen : (t : Transition) × (getElem? (net .transitions) (pickTransition w) ≡ some t)
+  chosen = known.chosen (P .known) (P .there)
 
   pub among : pickTransition w < length transitions
-  among = let l = ap length (P .known .stand) ∙ length-map (net .transitions) (λ (t : Transition). t .position) in let h = P .there in omega arith
-
-  at-position : getD transitions (pickTransition w) 0 ≡ chosen .0 .position
-  at-position = position-at (λ (t : Transition). t .position) (net .transitions) transitions (P .known .stand) (pickTransition w) (chosen .0) (chosen .1)
+  among = known.among (P .known) (P .there)
 
   reads : (next : ℕ) × (readTransition ws (net .places) (getD transitions (pickTransition w) 0) ≡ read (chosen .0) next)
-  reads = reads-at (λ (t : Transition). t .position) (net .transitions) transitions (P .known .stand) (pickTransition w) (chosen .0) (chosen .1) (readTransition ws (net .places)) (net-transitions ws 0 net (P .known .whole) (accepted-read ws net (P .known .whole) (P .known .accepted)))
+  reads = known.reads (P .known) (P .there)
 
   -- its TRANSITION word and its positions in the table, as the code has them
   abbrev head : ℕ
@@ -132,21 +129,26 @@ module _ {ws ps transitions parts begins buffer : List ℕ} {size w : ℕ} (P : 
   abbrev own : List ℕ
   own = take (pickTransition w * 32 + 32 - pickTransition w * 32) (drop (pickTransition w * 32) parts)
 
-  pub pick-inside : getD transitions (pickTransition w) 0 < length ws
-  pick-inside = head-inside ws (net .places) (getD transitions (pickTransition w) 0) (chosen .0) (reads .0) (reads .1)
+  abbrev rest : List ℕ
+  rest = take (pickTransition w * 9 + 9 - pickTransition w * 9) (drop (pickTransition w * 9) rests)
 
-  -- the positions of its parts are not the last 32 of the table
-  is-kept : pickTransition w * 32 + 64 ≤ length parts
-  is-kept = let f = accepted-sound ws net (P .known .whole) (P .known .accepted) .few-transitions in let h = P .there in let l = P .known .long in omega arith
+  pub pick-inside : getD transitions (pickTransition w) 0 < length ws
+  pick-inside = known.inside (P .known) (P .there)
 
   pub pick-room : pickTransition w * 32 + 32 ≤ length parts
-  pick-room = let r = is-kept in omega arith
+  pick-room = known.room (P .known) (P .there)
+
+  pub pick-rest : pickTransition w * 9 + 9 ≤ length rests
+  pick-rest = let f = known.few (P .known) (P .there) in let l = P .rested .long in omega arith
 
   parted : Parted head own (outline (chosen .0))
-  parted = subst (λ (q : ℕ). Parted (getD ws q 0) own (outline (chosen .0))) (sym at-position) (rw (part-is (pickTransition w * 32) 32 parts) (P .known .kept .each (pickTransition w) (chosen .0) (rw (zero-add (pickTransition w)) (chosen .1)) is-kept))
+  parted = rw (part-is (pickTransition w * 32) 32 parts) (known.parted (P .known) (P .there))
 
   own-long : length own ≡ 32
-  own-long = rw (part-is (pickTransition w * 32) 32 parts) (let l = length-drop (pickTransition w * 32) parts in let r = pick-room in length-take-le 32 (drop (pickTransition w * 32) parts) (omega arith))
+  own-long = rw (part-is (pickTransition w * 32) 32 parts) (known.own-long (P .known) (P .there))
+
+  rest-kept : Rest ws ps head own rest
+  rest-kept = rw (part-is (pickTransition w * 32) 32 parts, part-is (pickTransition w * 9) 9 rests) (P .rested .each (pickTransition w) among)
 
   pub scene-is : sceneOf ws (getD transitions (pickTransition w) 0) (take size buffer) ≡ record { net = net; transition = chosen .0; counts = countsOf (P .entries) }
   unfolding sceneOf
@@ -154,8 +156,8 @@ module _ {ws ps transitions parts begins buffer : List ℕ} {size w : ℕ} (P : 
 
   -- ── Its menu ──
 
-  pub pick-lists : Lists ws ps (getD transitions (pickTransition w) 0) head own (take size buffer) begins
-  pick-lists = record { few = parted .few; long = own-long; world = subst (World ws ps (getD transitions (pickTransition w) 0) (variablesIn head) (inputsIn head own) (guardIn head own) (planIn head own) (take size buffer) begins) (sym scene-is) world }
+  pub pick-lists : Lists ws ps (getD transitions (pickTransition w) 0) head own rest (take size buffer) begins
+  pick-lists = record { few = parted .few; long = own-long; tested = rest-kept; world = subst (World ws ps (getD transitions (pickTransition w) 0) (variablesIn head) (inputsIn head own) (guardIn head own) (planIn head own) (take size buffer) begins) (sym scene-is) world }
     where
       world : World ws ps (getD transitions (pickTransition w) 0) (variablesIn head) (inputsIn head own) (guardIn head own) (planIn head own) (take size buffer) begins (record { net = net; transition = chosen .0; counts = countsOf (P .entries) })
       world = record {

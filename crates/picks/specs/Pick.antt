@@ -1,5 +1,5 @@
 -- What a pick leaves: the marking after it at the front of the buffer, or the marking before it and the refusal.
--- Rests on semantics/specs/Run, firing/specs/Fire, starts/specs/Known and net/specs/Parted.
+-- Rests on semantics/specs/Run, firing/specs/Fire, starts/specs/Known, net/specs/Parted and Rests.
 use mathlib.Core.Path.{_≡_}
 use mathlib.Core.Bool.{true}
 use mathlib.Core.List.{List}
@@ -22,6 +22,7 @@ use Rattle.arrivals.specs.World.{World}
 use Rattle.search.specs.Scene.{netOf, countsIn, sceneOf}
 use Rattle.picks.specs.declared.pick.Picked.{Picked}
 use Rattle.starts.specs.Known.{NetKnown}
+use Rattle.picks.specs.Rests.{Rest, RestsKept}
 
 -- the marking after a firing at the front of the buffer, or the one before it and the refusal
 abbrev pub Leaves : Net → List ℕ → ℕ → Picked → List ℕ → Firing → Type 0
@@ -55,15 +56,18 @@ pub record IsFiredAt (ws ps is os begins buffer : List ℕ) (size : ℕ) (spare 
   pub fired : (gs : List ℕ) (q : FireableAt ws ps gs is os (take size buffer) begins bs) → isEnabled houseTable (q .transition) (countsOf (q .entries)) (q .binding) ≡ true → Leaves (q .net) buffer size r after (fire houseTable (q .net) (min (length buffer) (length spare)) (q .transition) (countsOf (q .entries)) (q .binding))
   pub begun : (gs : List ℕ) (q : FireableAt ws ps gs is os (take size buffer) begins bs) → isEnabled houseTable (q .transition) (countsOf (q .entries)) (q .binding) ≡ true → BeginsThen (q .net) begins begins′ (fire houseTable (q .net) (min (length buffer) (length spare)) (q .transition) (countsOf (q .entries)) (q .binding))
 
--- the menu of the transition at a position may be listed, by its TRANSITION word and its 32 positions
-pub record Lists (ws ps : List ℕ) (position head : ℕ) (own ms begins : List ℕ) : Type 0 where
+-- the menu of the transition at a position may be listed, by its TRANSITION word, its 32 positions and the nine numbers that say what leaves look up
+pub record Lists (ws ps : List ℕ) (position head : ℕ) (own rest ms begins : List ℕ) : Type 0 where
   pub few : FewParts head
   pub long : length own ≡ 32
   pub world : World ws ps position (variablesIn head) (inputsIn head own) (guardIn head own) (planIn head own) ms begins (sceneOf ws position ms)
+  pub tested : Rest ws ps head own rest
 
--- a pick of one of the net's transitions, whose parts were kept, and an accepted marking at the front of a buffer, with where its places begin
-pub record Pickable (ws ps transitions parts begins buffer : List ℕ) (size w : ℕ) : Type 0 where
+-- a pick of one of the net's transitions, whose parts and arcs to look up were kept, and an accepted marking at the front of a buffer, with where its
+-- places begin
+pub record Pickable (ws ps transitions parts rests begins buffer : List ℕ) (size w : ℕ) : Type 0 where
   pub known : NetKnown ws ps transitions parts (netOf (acceptNet ws))
+  pub rested : RestsKept ws ps transitions parts (length transitions) rests
   pub inside : size ≤ length buffer
   pub entries : List Entry
   pub end : ℕ

@@ -88,24 +88,27 @@ fn fire_row(
     )
 }
 
-// The menu of the transition at a position with a limit to its tries; its parts stand at these 32 positions, by its word.
+// The menu of the transition at a position with a limit to its tries; its parts stand at these 32 positions, by its word, and the first eight of the nine
+// numbers `rest` are the positions that leaves look up, as many as the last says.
 fn list_menu(
     net: &[u32],
     places: &[usize],
     position: usize,
     head: u32,
     own: &[usize],
+    rest: &[usize],
     marking: &[u32],
     begins: &[usize],
     limit: u32,
     menu: &mut [u32],
 ) -> Listed
-    requires { ⌜ Lists (now net) (now places) position head (now own) (now marking) (now begins) ⌝ }
+    requires { ⌜ Lists (now net) (now places) position head (now own) (now rest) (now marking) (now begins) ⌝ }
     ensures { λ r. ⌜ IsListed (now (net .entry)) position (now (marking .entry)) limit (now (menu .entry)) r (now (menu .exit)) ⌝ }
 {
     let inputs = (head / 16 % 16) as usize;
     let conjuncts = (head / 4096 % 16) as usize;
     let elements = (head / 65536 % 16) as usize;
+    let count = rest[8];
     list_bindings(
         net,
         places,
@@ -113,6 +116,7 @@ fn list_menu(
         (head % 16) as usize,
         &own[16..16 + conjuncts],
         &own[..inputs],
+        &rest[..count],
         &own[24..24 + elements],
         marking,
         begins,
@@ -121,13 +125,14 @@ fn list_menu(
     )
 }
 
-// The pick w in a net whose places and transitions stand at these positions, and the parts of the transitions where the table says; the marking is the
-// first words of the buffer, and its places begin where `begins` says, before and after.
+// The pick w in a net whose places and transitions stand at these positions, and the parts of the transitions where the table says; which arcs leaves look
+// up stands in `rests`. The marking is the first words of the buffer, and its places begin where `begins` says, before and after.
 pub fn pick_once(
     net: &[u32],
     places: &[usize],
     transitions: &[usize],
     parts: &[usize],
+    rests: &[usize],
     budget: u32,
     begins: &mut [usize],
     buffer: &mut [u32],
@@ -136,7 +141,7 @@ pub fn pick_once(
     menu: &mut [u32],
     w: u32,
 ) -> Picked
-    requires { ⌜ Pickable (now net) (now places) (now transitions) (now parts) (now begins) (now buffer) length w ⌝ }
+    requires { ⌜ Pickable (now net) (now places) (now transitions) (now parts) (now rests) (now begins) (now buffer) length w ⌝ }
     ensures { λ r. ⌜ IsPicked (now (net .entry)) budget (now (begins .entry)) (now (buffer .entry)) length (now (spare .entry)) (now (menu .entry)) w r (now (buffer .exit)) (now (begins .exit)) ⌝ }
 {
     let number = (w / 16384 % 256) as usize;
@@ -145,12 +150,14 @@ pub fn pick_once(
     let head = net[position];
     let from = number * 32;
     let own = &parts[from..from + 32];
+    let at = number * 9;
     match list_menu(
         net,
         places,
         position,
         head,
         own,
+        &rests[at..at + 9],
         &buffer[..length],
         begins,
         budget,

@@ -31,6 +31,7 @@ use Rattle.marking.specs.Marked.{markingRead, Begins, BeginsFor, Accepted, Inde
 use Rattle.steps.specs.Steps.{BeginsThen}
 use Rattle.search.specs.Scene.{netOf, countsIn}
 use Rattle.picks.specs.declared.pick.Picked.{Picked}
+use Rattle.picks.specs.Rests.{RestsKept}
 use Rattle.picks.specs.Pick.{Leaves, Pickable, IsPicked}
 use Rattle.run.specs.Run.{Runnable, HasRun}
 
@@ -137,8 +138,8 @@ module _ {ws ps transitions parts : List ℕ} {budget : ℕ} {buffer₀ : List �
         rw e (record { done = refl; refusal = refl; size = sized; inside = S .inside; words = words })
 
     module _ (h : done < length picks) where
-      pub sofar-pickable : Pickable ws ps transitions parts begins buffer size (getD picks done 0)
-      sofar-pickable = record { known = R .known; inside = S .inside; entries = S .entries; end = S .end; marked = S .marked; full = S .full; begun = S .begun; there = every-number (λ w. pickTransition w < length (net ws .transitions)) picks done 0 (R .there) h }
+      pub sofar-pickable : {rests : List ℕ} → RestsKept ws ps transitions parts (length transitions) rests → Pickable ws ps transitions parts rests begins buffer size (getD picks done 0)
+      sofar-pickable K = record { known = R .known; rested = K; inside = S .inside; entries = S .entries; end = S .end; marked = S .marked; full = S .full; begun = S .begun; there = every-number (λ w. pickTransition w < length (net ws .transitions)) picks done 0 (R .there) h }
 
       same-limits : limits budget buffer spare menu ≡ (limits budget buffer₀ spare₀ menu₀)
       same-limits = rw (S .buffer-kept, S .spare-kept, S .menu-kept)

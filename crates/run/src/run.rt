@@ -3,6 +3,7 @@ use expression::read::Skipped;
 use marking::begins::index_marking;
 use menus::menu::clear;
 use picks::pick::pick_once;
+use picks::rests::keep_rests;
 use semantics::Outcome;
 use starts::begin::begin;
 use word::size::at_most;
@@ -17,8 +18,8 @@ pub struct Ended {
     pub length: usize,
 }
 
-// Fires the picks in turn; the first one that is refused ends the run. Where the parts of the transitions begin stands in a table. Where the places of the
-// marking begin is made out once, and each pick moves it.
+// Fires the picks in turn; the first one that is refused ends the run. Where the parts of the transitions begin stands in a table. Which arcs leaves look up
+// is made out once for each transition. Where the places of the marking begin is made out once, and each pick moves it.
 fn fire_picks(
     net: &[u32],
     places: &[usize],
@@ -34,6 +35,8 @@ fn fire_picks(
     requires { ⌜ Runnable (now net) (now places) (now transitions) (now parts) (now buffer) m (now picks) ⌝ }
     ensures { λ r. ⌜ HasRunFrom (now (net .entry)) budget (now (buffer .entry)) m (now (spare .entry)) (now (menu .entry)) (now (picks .entry)) r (now (buffer .exit)) ⌝ }
 {
+    let mut rests = [0usize; 576];
+    keep_rests(net, places, transitions, parts, &mut rests);
     let mut begins = [0usize; 65];
     index_marking(net, places, &buffer[..m], &mut begins);
     let mut done = 0;
@@ -51,6 +54,7 @@ fn fire_picks(
             places,
             transitions,
             parts,
+            &rests[..],
             budget,
             &mut begins,
             buffer,

@@ -89,7 +89,7 @@ pub fn leave_out(
     places: &[usize],
     inputs: &[usize],
     elements: &[usize],
-    rest: &mut [usize; 8],
+    rest: &mut [usize],
 ) -> usize
     requires { ⌜ PlacesFit (now net) (now places) ⌝ }
     requires { ⌜ Within (now net) (now places) (now inputs) (now elements) ⌝ }

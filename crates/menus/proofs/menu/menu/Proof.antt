@@ -1,4 +1,4 @@
--- `menus::menu::menu` meets its contract: refused input by `menu-refused`, else by what `list_bindings` answers. The tables that are lent keep
+-- `menus::menu::menu` meets its contract: refused input by `menu-refused`, else by what `list_once` answers. The tables that are lent keep
 -- their length.
 use mathlib.Core.Path.{_≡_, sym}
 use native.Mathlib.Omega.{arith}
@@ -25,42 +25,42 @@ places-share c =
     let l = places-full n in
     omega arith
 
-places-slice : tie.Need-slice-aggregate-list-bindings
+places-slice : tie.Need-slice-aggregate-list-once
 places-slice c =
     let n = c .before .before .before .before .before .before .before .before in
     let few = n .prepare .ensures .prepares _ (c .before .before .before .enum-told .given .1) .few in
     let l = places-full n in
     sym (length-take-le _ _ (omega arith))
 
-guard-end : tie.Need-add-list-bindings
+guard-end : tie.Need-add-list-once
 guard-end c = let few = c .before .before .before .before .before .before .before .before .prepare .ensures .prepares _ (c .before .before .before .enum-told .given .1) .few-conjuncts in omega arith
 
-guard-part : tie.Need-part-list-bindings-end
+guard-part : tie.Need-part-list-once-end
 guard-part c =
     let n = c .before .before .before .before .before .before .before .before in
     let few = n .prepare .ensures .prepares _ (c .before .before .before .enum-told .given .1) .few-conjuncts in
     let l = own-full n in
     omega arith
 
-ins-slice : tie.Need-slice-aggregate-list-bindings-2
+ins-slice : tie.Need-slice-aggregate-list-once-2
 ins-slice c =
     let n = c .before .before .before .before .before .before .before .before .before .before in
     let few = n .prepare .ensures .prepares _ (c .before .before .before .before .before .enum-told .given .1) .few-inputs in
     let l = own-full n in
     sym (length-take-le _ _ (omega arith))
 
-plan-end : tie.Need-add-list-bindings-2
+plan-end : tie.Need-add-list-once-2
 plan-end c = let few = c .before .before .before .before .before .before .before .before .before .before .prepare .ensures .prepares _ (c .before .before .before .before .before .enum-told .given .1) .few-elements in omega arith
 
-plan-part : tie.Need-part-list-bindings-end-2
+plan-part : tie.Need-part-list-once-end-2
 plan-part c =
     let n = c .before .before .before .before .before .before .before .before .before .before in
     let few = n .prepare .ensures .prepares _ (c .before .before .before .before .before .enum-told .given .1) .few-elements in
     let l = own-full n in
     omega arith
 
-list-bindings-requires : tie.Need-list-bindings-requires
-list-bindings-requires c κs =
+list-once-requires : tie.Need-list-once-requires
+list-once-requires c κs =
     let n = c .before .before .before .before .before .before .before .before .before .before .before .before .before in
     prepared-world (n .prepare .ensures .prepares _ (c .before .before .before .before .before .before .before .before .enum-told .given .1)) (begins-full n)
 
@@ -73,7 +73,7 @@ returns c =
 returns-2 : tie.Need-returns-2
 returns-2 c =
     let n = c .before .before .before .before .before .before .before .before .before .before .before .before .before .before .before .before in
-    menu-listed (n .prepare .ensures .prepares _ (c .before .before .before .before .before .before .before .before .before .before .before .enum-told .given .1)) (c .before .before .list-bindings .ensures)
+    menu-listed (n .prepare .ensures .prepares _ (c .before .before .before .before .before .before .before .before .before .before .before .enum-told .given .1)) (c .before .before .list-once .ensures)
 
 pub menu-spec : {M : Type 1} → statement M
 menu-spec =
@@ -98,7 +98,7 @@ menu-spec =
     (λ c. search needs)
     plan-part
     (λ c. search needs)
-    list-bindings-requires
+    list-once-requires
     returns
     (λ c. search needs)
     returns-2)
