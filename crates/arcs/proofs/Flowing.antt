@@ -25,7 +25,7 @@ use Rattle.semantics.proofs.Tests.{false-true, either}
 use Rattle.evaluation.specs.Evaluate.{lent}
 use Rattle.net.specs.Places.{rangesFrom, placesAt, PlacesFit}
 use Rattle.net.specs.Standing.{HasArc}
-use Rattle.net.proofs.Standing.{placeOf, coefficient-inside, parts, place-listed, components-read, coefficient-stands, components-stand}
+use Rattle.net.proofs.Standing.{placeOf, coefficient-inside, parts, arc-inside, place-there, components-read, coefficient-stands, components-stand}
 use Rattle.net.proofs.Placed.{ranges-at, fits-at, place-inside, place-room}
 use Rattle.colours.proofs.Codes.{code-below}
 use Rattle.arcs.specs.declared.flow.Coefficient.{Coefficient}
@@ -55,23 +55,17 @@ module _ {ws bs : List ℕ} {at : ℕ} where
 
 -- its place
 module _ {ws ps : List ℕ} {v at : ℕ} (a : HasArc ws ps v at) where
-  pub arc-inside : at < length ws
-  arc-inside = parts a .inside
-
   pub arc-fits : Fits w64 (at + 1)
   arc-fits = let h = coefficient-inside ws (placesAt ws ps) v at (a .reads) .1 in record { fits = omega arith }
 
   module _ {q : ℕ} (g : q ≡ placeOf ws at) where
-    pub place-there : q < length ps
-    place-there = rw g (place-listed a)
-
     module _ (f : PlacesFit ws ps) where
       pub place-few : q < 64
-      place-few = let h = place-there in let l = f .few in omega arith
+      place-few = let h = place-there a g in let l = f .few in omega arith
 
       module _ {w : ℕ} (d : w ≡ payload (getD ws (getD ps q 0) 0)) where
         pub place-narrow : w ≤ 4
-        place-narrow = rw d (fits-at f q place-there .narrow)
+        place-narrow = rw d (fits-at f q (place-there a g) .narrow)
 
 module _ {ws ps : List ℕ} (bs : List ℕ) {at : ℕ} (a : HasArc ws ps (length bs) at) where
   flow-read : flowAt ws ps bs at ≡ bind (value houseTable (lent bs) (a .arc .coefficient)) (λ z. bind (valuesOf houseTable (lent bs) (a .arc .components)) (λ c. flowBy (a .arc .place) z c))

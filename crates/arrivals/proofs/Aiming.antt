@@ -9,10 +9,10 @@ use Rattle.semantics.specs.Reading.{read, several}
 use Rattle.semantics.specs.Net.{Arc, rangesAt}
 use Rattle.semantics.specs.ReadNet.{readExpression, readArc}
 use Rattle.semantics.proofs.Spans.{several-length}
-use Rattle.expression.proofs.Laws.{constant-alone, expression-short}
+use Rattle.expression.proofs.Laws.{expression-short}
 use Rattle.net.specs.Places.{widthAt, placesAt, PlacesFit}
 use Rattle.net.proofs.Placed.{width-at, fits-at}
-use Rattle.net.proofs.Standing.{placeOf, arc-parts, parts, place-listed}
+use Rattle.net.proofs.Standing.{placeOf, arc-parts, behind-constant, parts, place-there}
 use Rattle.counts.proofs.Found.{rows-inside}
 use Rattle.elements.specs.declared.element.Element.{Element}
 use Rattle.arrivals.specs.declared.step.Step.{Step}
@@ -40,20 +40,14 @@ noted-blank v b {parts} z = record { full = z .full; knows = rw (z .blank) (know
 -- ── A match ──
 
 module _ {ws ps : List ℕ} {v : ℕ} {ms begins : List ℕ} {at : ℕ} (w : IsTarget ws ps v ms begins at) where
-  pub arc-inside : at < length ws
-  arc-inside = parts (w .stands) .inside
-
-  -- its components stand behind a coefficient of one word
-  behind : parts (w .stands) .mid ≡ at + 2
-  behind = constant-alone ws v (at + 1) (parts (w .stands) .coefficient) (w .short) .1 ∙ omega arith
-
   pub components-near : at + 2 ≤ length ws
-  components-near = let s = expression-short ws v (at + 1) (parts (w .stands) .coefficient) in let n = s .in-words in let b = behind in omega arith
+  components-near =
+      let s = expression-short ws v (at + 1) (parts (w .stands) .coefficient) in
+      let n = s .in-words in
+      let b = behind-constant ws (placesAt ws ps) v at (w .stands .reads) (w .short) in
+      omega arith
 
   module _ {place : ℕ} (d : place ≡ payload (getD ws at 0)) where
-    pub place-there : place < length ps
-    place-there = rw d (place-listed (w .stands))
-
     pub entries-up : getD begins place 0 ≤ getD begins (place + 1) 0
     entries-up = rw d (w .up)
 
@@ -61,12 +55,12 @@ module _ {ws ps : List ℕ} {v : ℕ} {ms begins : List ℕ} {at : ℕ} (w : IsT
     pub match-aimed : PlacesFit ws ps → (e : Element) {width : ℕ} {words : List ℕ} → width ≡ widthAt ws (getD ps place 0) → IsParts ws v (at + 2) width words → IsMatch ws ps v ms begins e at words (record { element = e; count = (getD begins (place + 1) 0 - getD begins place 0) / (width + 1); from = getD begins place 0; width = width })
     match-aimed fits e {width} {words} i j = record {
       element = refl;
-      entries = record { narrow = rw i (fits-at fits place place-there .narrow); inside = rows-inside (getD begins place 0) (getD begins (place + 1) 0) (width + 1) (length ms) entries-up (rw d (w .inside)) };
+      entries = record { narrow = rw i (fits-at fits place (place-there (w .stands) d) .narrow); inside = rows-inside (getD begins place 0) (getD begins (place + 1) 0) (width + 1) (length ms) entries-up (rw d (w .inside)) };
       aimed = λ a next h x y.
           let s = arc-parts ws (placesAt ws ps) v at h in
           let p : place ≡ a .place = d ∙ sym (s .place) in
-          let o : s .mid ≡ at + 2 = constant-alone ws v (at + 1) (s .coefficient) (w .short) .1 ∙ omega arith in
-          let z : length (rangesAt (placesAt ws ps) (placeOf ws at)) ≡ width = ap (λ (n : ℕ). length (rangesAt (placesAt ws ps) n)) (sym (p ∙ s .place)) ∙ width-at ws ps place place-there ∙ sym i in
+          let o : s .mid ≡ at + 2 = behind-constant ws (placesAt ws ps) v at h (w .short) in
+          let z : length (rangesAt (placesAt ws ps) (placeOf ws at)) ≡ width = ap (λ (n : ℕ). length (rangesAt (placesAt ws ps) n)) (sym (p ∙ s .place)) ∙ width-at ws ps place (place-there (w .stands) d) ∙ sym i in
           let c : several width (readExpression ws v) (at + 2) ≡ read (a .components) (s .next) = rw (z, o) at (s .components) in
           record { wide = sym (several-length (readExpression ws v) width (at + 2) (a .components) (s .next) c); begin = j .begin (a .components) (s .next) c; from = rw p; many = rw p };
     }

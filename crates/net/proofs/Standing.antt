@@ -1,6 +1,6 @@
 -- Structures that stand at positions: behind the word of a conjunct or an arc its expressions stand one after the other, and each conjunct and arc of a
 -- transition that was read stands at its position. The law of a structure follows its reader line by line. Rests on Located and Placed.
-use mathlib.Core.Path.{_≡_, refl, ap}
+use mathlib.Core.Path.{_≡_, refl, ap, _∙_}
 use Prim.Native.Nat.{ℕ, suc, _+_, _≤_, _<_}
 use mathlib.Core.Bool.{true}
 use mathlib.Core.List.{List, [], _∷_, map}
@@ -18,7 +18,7 @@ use Rattle.semantics.specs.ReadNet.{readExpression, relationOf, readArc, readCo
 use Rattle.semantics.proofs.Readers.{Gives, gives, given, then-gives, as-read}
 use Rattle.semantics.proofs.Spans.{then-read}
 use Rattle.expression.specs.Standing.{HasExpression, HasSeveral}
-use Rattle.expression.proofs.Laws.{expression-short}
+use Rattle.expression.proofs.Laws.{expression-short, constant-alone}
 use Rattle.kinds.specs.Taken.{fitsKind}
 use Rattle.net.specs.Places.{widthAt, placesAt}
 use Rattle.net.specs.Standing.{HasConjunct, HasArc}
@@ -130,6 +130,10 @@ module _ (ws : List ℕ) (places : List Place) (v at : ℕ) {a : Arc} {next : �
   pub coefficient-inside : (at + 1 < length ws) × (at + 2 ≤ mostWords)
   coefficient-inside = let s = expression-short ws v (at + 1) (arc-parts .coefficient) in (omega arith, omega arith)
 
+  -- its components stand right behind a coefficient that is one CONSTANT
+  pub behind-constant : kind (getD ws (at + 1) 0) ≡ 7 → arc-parts .mid ≡ at + 2
+  behind-constant k = constant-alone ws v (at + 1) (arc-parts .coefficient) k .1 ∙ omega arith
+
   -- its word, read by itself
   pub arc-word : word ws 5 (fitsKind 5) at ≡ read (placeOf ws at) (at + 1)
   unfolding fitsKind
@@ -140,8 +144,14 @@ module _ {ws ps : List ℕ} {v at : ℕ} (h : HasArc ws ps v at) where
   pub parts : ArcParts ws (placesAt ws ps) v at (h .arc)
   parts = arc-parts ws (placesAt ws ps) v at (h .reads)
 
+  pub arc-inside : at < length ws
+  arc-inside = parts .inside
+
   pub place-listed : placeOf ws at < length ps
   place-listed = rw (places-length ws ps) at (parts .there)
+
+  pub place-there : {q : ℕ} → q ≡ placeOf ws at → q < length ps
+  place-there g = rw g place-listed
 
   pub components-read : several (widthAt ws (getD ps (placeOf ws at) 0)) (readExpression ws v) (parts .mid) ≡ read (h .arc .components) (parts .next)
   components-read = rw (width-at ws ps (placeOf ws at) place-listed) at (parts .components)

@@ -21,11 +21,11 @@ use Rattle.semantics.proofs.Members.{none-some, every-number}
 use Rattle.semantics.proofs.Tests.{false-true}
 use Rattle.semantics.proofs.Spans.{then-read}
 use Rattle.semantics.proofs.Settled.{kept}
-use Rattle.expression.proofs.Laws.{constant-alone, expression-short}
-use Rattle.net.specs.Places.{widthAt, PlacesFit}
+use Rattle.expression.proofs.Laws.{expression-short}
+use Rattle.net.specs.Places.{widthAt, placesAt, PlacesFit}
 use Rattle.net.specs.Standing.{HasArc}
 use Rattle.net.proofs.Loops.{take-set}
-use Rattle.net.proofs.Standing.{placeOf, parts, place-listed, components-read}
+use Rattle.net.proofs.Standing.{placeOf, coefficient-inside, behind-constant, parts, arc-inside, place-there, components-read}
 use Rattle.net.proofs.Placed.{place-inside}
 use Rattle.spares.specs.Spare.{Inside, Within, AreLone, LoneIf, IsAlone, AloneIf, IsMatched, MatchedIf, Spares, SparesIf, LeftOut, Unspared, IsRest}
 
@@ -94,31 +94,25 @@ several-long ws v (suc n) at es next h l =
     omega arith
 
 module _ {ws ps inputs elements : List ℕ} (w : Within ws ps inputs elements) where
-  arc-at : (k : ℕ) → k < length inputs → HasArc ws ps (w .variables) (getD inputs k 0)
+  pub arc-at : (k : ℕ) → k < length inputs → HasArc ws ps (w .variables) (getD inputs k 0)
   arc-at k h = every-number (HasArc ws ps (w .variables)) inputs k 0 (w .arcs) h
 
   pub inputs-inside : Inside ws inputs
-  inputs-inside = record { each = λ i h. parts (arc-at i h) .inside }
+  inputs-inside = record { each = λ i h. arc-inside (arc-at i h) }
 
   module _ {k : ℕ} (h : k < length inputs) where
     pub coefficient-there : getD inputs k 0 + 1 < length ws
-    coefficient-there = let p = parts (arc-at k h) in let s = expression-short ws (w .variables) (getD inputs k 0 + 1) (p .coefficient) in omega arith
-
-    pub arc-there : getD inputs k 0 < length ws
-    arc-there = parts (arc-at k h) .inside
+    coefficient-there = coefficient-inside ws (placesAt ws ps) (w .variables) (getD inputs k 0) (arc-at k h .reads) .0
 
     module _ {place : ℕ} (e : place ≡ payload (getD ws (getD inputs k 0) 0)) where
-      pub place-there : place < length ps
-      place-there = rw e (place-listed (arc-at k h))
-
       pub place-word : PlacesFit ws ps → getD ps place 0 < length ws
-      place-word f = let i = place-inside f place-there in omega arith
+      place-word f = let i = place-inside f (place-there (arc-at k h) e) in omega arith
 
       -- the components stand behind a coefficient of one word
       pub components-there : {width : ℕ} → width ≡ payload (getD ws (getD ps place 0) 0) → getD ws (getD inputs k 0 + 1) 0 ≡ 0x70000001 → getD inputs k 0 + 2 + width ≤ length ws
       components-there {width} g o =
           let p = parts (arc-at k h) in
-          let n = constant-alone ws (w .variables) (getD inputs k 0 + 1) (p .coefficient) (ap kind o) .1 in
+          let n = behind-constant ws (placesAt ws ps) (w .variables) (getD inputs k 0) (arc-at k h .reads) (ap kind o) in
           let s = expression-short ws (w .variables) (getD inputs k 0 + 1) (p .coefficient) in
           let q = several-long ws (w .variables) (widthAt ws (getD ps (placeOf ws (getD inputs k 0)) 0)) (p .mid) (arc-at k h .arc .components) (p .next) (components-read (arc-at k h)) (s .in-words) in
           let d : width ≡ widthAt ws (getD ps (placeOf ws (getD inputs k 0)) 0) = g ∙ ap (λ (i : ℕ). payload (getD ws (getD ps i 0) 0)) e in
@@ -219,4 +213,4 @@ module _ {ws ps inputs elements rest : List ℕ} {n j : ℕ} (L : Left ws ps inp
 pub left-end : {ws ps inputs elements rest : List ℕ} {n j : ℕ} → Left ws ps inputs elements rest n j → length inputs ≤ j → IsRest ws ps inputs elements rest n
 left-end {inputs = inputs} {j = j} L h = record { full = L .long; few = let f = L .few in let i = L .inside in omega arith; unspared = record { mask = L .mask; same = L .same ∙ ap (kept (L .mask)) (take-all j inputs h); spares = L .spares } }
 
-pub ruleset sparing = (needs, lone-start, lone-turn, lone-yes, lone-no, alone-start, alone-own, alone-turn, alone-yes, alone-no, matched-yes, matched-no, inside-at, inputs-inside, coefficient-there, arc-there, place-there, place-word, components-there, spares-no, spares-yes, left-start, left-spared, left-room, left-turn, left-end)
+pub ruleset sparing = (needs, lone-start, lone-turn, lone-yes, lone-no, alone-start, alone-own, alone-turn, alone-yes, alone-no, matched-yes, matched-no, inside-at, inputs-inside, coefficient-there, place-word, components-there, spares-no, spares-yes, left-start, left-spared, left-room, left-turn, left-end)

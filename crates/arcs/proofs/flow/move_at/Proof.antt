@@ -1,7 +1,8 @@
 -- `arcs::flow::move_at` meets its contract: each answer by its rule in `Flowing`; the place's words stand in the net, since places fit.
 use native.Mathlib.Omega.{arith}
 use Rattle.net.proofs.Placed.{place-inside, place-room}
-use Rattle.arcs.proofs.Flowing.{place-there, behind-coefficient, place-narrow, moving-arc}
+use Rattle.net.proofs.Standing.{place-there}
+use Rattle.arcs.proofs.Flowing.{behind-coefficient, place-narrow, moving-arc}
 use Rattle.arcs.proofs.flow.move_at.Statement.{statement}
 use Rattle.arcs.proofs.flow.move_at.Tie as tie
 

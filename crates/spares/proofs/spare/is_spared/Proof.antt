@@ -1,7 +1,8 @@
 -- `spares::spare::is_spared` meets its contract: an arc that passes all tests is spared, and none where one fails.
 use native.Mathlib.Omega.{arith}
 use borrow.Author.Needs.{needs}
-use Rattle.spares.proofs.Sparing.{sparing, inputs-inside, coefficient-there, arc-there, place-there, place-word, components-there, spares-yes}
+use Rattle.net.proofs.Standing.{arc-inside, place-there}
+use Rattle.spares.proofs.Sparing.{sparing, arc-at, inputs-inside, coefficient-there, place-word, components-there, spares-yes}
 use Rattle.spares.proofs.spare.is_spared.Statement.{statement}
 use Rattle.spares.proofs.spare.is_spared.Tie as tie
 
@@ -15,16 +16,16 @@ shared-slice-read-if1 : tie.Need-shared-slice-read-if1
 shared-slice-read-if1 c = let st = c .before .before .before .before .before .before in let w = st .pre .1 .0 in let h = st .pre .1 .1 .0 in coefficient-there w h
 
 mul-payload : tie.Need-mul-payload
-mul-payload c = let st = c .before .before .before .before .before .before .before in let w = st .pre .1 .0 in let h = st .pre .1 .1 .0 in let k = arc-there w h in omega arith
+mul-payload c = let st = c .before .before .before .before .before .before .before in let w = st .pre .1 .0 in let h = st .pre .1 .1 .0 in let k = arc-inside (arc-at w _ h) in omega arith
 
 shared-slice-read-payload : tie.Need-shared-slice-read-payload
-shared-slice-read-payload c = let st = c .before .before .before .before .before .before .before .before in let w = st .pre .1 .0 in let h = st .pre .1 .1 .0 in arc-there w h
+shared-slice-read-payload c = let st = c .before .before .before .before .before .before .before .before in let w = st .pre .1 .0 in let h = st .pre .1 .1 .0 in arc-inside (arc-at w _ h)
 
 mul-payload-2 : tie.Need-mul-payload-2
-mul-payload-2 c = let st = c .before .before .before .before .before .before .before .before .before in let w = st .pre .1 .0 in let h = st .pre .1 .1 .0 in let k = place-there w h (c .payload .ensures .0) in omega arith
+mul-payload-2 c = let st = c .before .before .before .before .before .before .before .before .before in let w = st .pre .1 .0 in let h = st .pre .1 .1 .0 in let k = place-there (arc-at w _ h) (c .payload .ensures .0) in omega arith
 
 shared-slice-read-payload-2 : tie.Need-shared-slice-read-payload-2
-shared-slice-read-payload-2 c = let st = c .before .before .before .before .before .before .before .before .before .before in let w = st .pre .1 .0 in let h = st .pre .1 .1 .0 in place-there w h (c .before .payload .ensures .0)
+shared-slice-read-payload-2 c = let st = c .before .before .before .before .before .before .before .before .before .before in let w = st .pre .1 .0 in let h = st .pre .1 .1 .0 in place-there (arc-at w _ h) (c .before .payload .ensures .0)
 
 mul-payload-3 : tie.Need-mul-payload-3
 mul-payload-3 c = let st = c .before .before .before .before .before .before .before .before .before .before in let w = st .pre .1 .0 in let h = st .pre .1 .1 .0 in let k = place-word w h (c .before .payload .ensures .0) (st .pre .0) in omega arith
