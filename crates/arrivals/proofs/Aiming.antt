@@ -1,13 +1,13 @@
 -- The rules of an arrival at a match: an arc that stands at a position has its place, its coefficient and its components there.
 use mathlib.Core.Path.{_≡_, refl, sym, ap, _∙_}
 use mathlib.Core.List.{List}
-use Prim.Native.Nat.{ℕ, _+_, _-_, _/_, _≤_, _<_}
+use Prim.Native.Nat.{ℕ, _+_, _-_, _/_, _≤_}
 use native.Mathlib.Omega.{arith}
 use lib.ListN.{length, getD}
 use Rattle.semantics.specs.Word.{payload}
 use Rattle.semantics.specs.Reading.{read, several}
 use Rattle.semantics.specs.Net.{Arc, rangesAt}
-use Rattle.semantics.specs.ReadNet.{readExpression, readArc}
+use Rattle.semantics.specs.ReadNet.{readExpression}
 use Rattle.semantics.proofs.Spans.{several-length}
 use Rattle.expression.proofs.Laws.{expression-short}
 use Rattle.net.specs.Places.{widthAt, placesAt, PlacesFit}

@@ -9,7 +9,7 @@ use mathlib.Core.Option.{some}
 use Prim.Native.Nat.{ℕ, zero, suc, _+_, _≤_, _<_}
 use native.Mathlib.Omega.{arith}
 use lib.IntN.{ℤ, pos}
-use lib.ListN.{length, getD, getElem?, drop, length-map}
+use lib.ListN.{length, getD, getElem?, drop}
 use Rattle.semantics.specs.Lists.{Every}
 use Rattle.semantics.specs.Word.{kind, payload, bits, signed}
 use Rattle.semantics.specs.Expression.{Expression, constant, variable, binary, load, houseTable, bound}
@@ -22,7 +22,7 @@ use Rattle.semantics.specs.Calls.{Situation}
 use Rattle.semantics.proofs.Spans.{several-split}
 use Rattle.semantics.proofs.Leaves.{Sound}
 use Rattle.semantics.proofs.Spared.{taking, Lone}
-use Rattle.semantics.proofs.Settled.{kept, every-kept, kept-map, Settles, settled-next, settled-leaf}
+use Rattle.semantics.proofs.Settled.{kept, every-kept, kept-map, settled-next, settled-leaf}
 use Rattle.expression.proofs.Spelled.{HeadWord, headOfTree}
 use Rattle.expression.proofs.Laws.{first-word, variable-alone, constant-alone}
 use Rattle.net.specs.Places.{widthAt, placesAt}
@@ -32,7 +32,7 @@ use Rattle.net.proofs.Standing.{placeOf, ArcParts, arc-parts, inputs-stand}
 use Rattle.evaluation.specs.Evaluate.{lent}
 use Rattle.occurrence.specs.Answers.{IsEnabledAt}
 use Rattle.occurrence.proofs.Reading.{arcs-told, guard-told}
-use Rattle.spares.specs.Spare.{Inside, Within, IsMatched, Spares, Unspared}
+use Rattle.spares.specs.Spare.{Within, Spares, Unspared}
 use Rattle.spares.proofs.Sparing.{out-at}
 use Rattle.arrivals.specs.World.{World}
 use Rattle.arrivals.proofs.Tries.{arc-inside, arc-here, arc-sound}

@@ -7,7 +7,7 @@ use mathlib.Core.Option.{Option, none, some}
 use Prim.Native.Nat.{ℕ, _+_, _≤_, _<_}
 use native.Mathlib.Omega.{arith}
 use lib.IntN.{ℤ}
-use lib.ListN.{length, getD, take, drop, drop-of-length-le, length-map}
+use lib.ListN.{length, getD, take, drop, drop-of-length-le}
 use lib.Seq.{take-all}
 use Rattle.semantics.specs.Lists.{Every, consIf}
 use Rattle.semantics.specs.Word.{payload, bits}
@@ -24,7 +24,7 @@ use Rattle.semantics.proofs.Extending.{Extends, tries-extend}
 use Rattle.semantics.proofs.Leaves.{Sound, sound-fits, sound-next, sound-leaf}
 use Rattle.semantics.proofs.Menu.{binding-full}
 use Rattle.net.specs.Places.{PlacesFit}
-use Rattle.evaluation.specs.Evaluate.{valueOf, lent}
+use Rattle.evaluation.specs.Evaluate.{lent}
 use Rattle.arcs.specs.Keys.{Known}
 use Rattle.arcs.proofs.Gathering.{known-kept, known-stays}
 use Rattle.occurrence.specs.Answers.{IsEnabledAt}

@@ -10,7 +10,7 @@ use tries::partial::restore;
 use tries::partial::save;
 use word::fields::payload;
 ghost use mathlib.Core.Path.{_≡_};
-ghost use Prim.Native.Nat.{_≤_, _<_};
+ghost use Prim.Native.Nat.{_<_};
 ghost use lib.ListN.{length, getD, drop};
 ghost use Rattle.semantics.specs.Word.{payload, bits};
 ghost use Rattle.semantics.specs.ReadNet.{sortOf};

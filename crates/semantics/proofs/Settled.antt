@@ -14,14 +14,14 @@ use lib.Dec.{leb}
 use lib.IntN.{ℤ, pos}
 use lib.ListN.{length, getElem?}
 use Rattle.semantics.specs.Lists.{Every}
-use Rattle.semantics.specs.Expression.{Expression, constant, value, valuesOf, bound}
+use Rattle.semantics.specs.Expression.{constant, value, valuesOf, bound}
 use Rattle.semantics.specs.Net.{Arc, Sort, match, Element, Transition, Net, rangesAt}
 use Rattle.semantics.specs.Order.{tuples}
 use Rattle.semantics.specs.Marking.{Counts}
 use Rattle.semantics.specs.Enabling.{isEnabled}
 use Rattle.semantics.specs.Tries.{Partial, partly, coloursOn, matched, tries}
 use Rattle.semantics.proofs.Tests.{selected, Every-of}
-use Rattle.semantics.proofs.Members.{none-some, member-at, every-both, every-snoc}
+use Rattle.semantics.proofs.Members.{member-at, every-both, every-snoc}
 use Rattle.semantics.proofs.Tuples.{tuples-in}
 use Rattle.semantics.proofs.Partial.{range-length}
 use Rattle.semantics.proofs.Leaves.{Sound}

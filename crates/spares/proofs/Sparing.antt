@@ -27,7 +27,7 @@ use Rattle.net.specs.Standing.{HasArc}
 use Rattle.net.proofs.Loops.{take-set}
 use Rattle.net.proofs.Standing.{placeOf, coefficient-inside, behind-constant, parts, arc-inside, place-there, components-read}
 use Rattle.net.proofs.Placed.{place-inside}
-use Rattle.spares.specs.Spare.{Inside, Within, AreLone, LoneIf, IsAlone, AloneIf, IsMatched, MatchedIf, Spares, SparesIf, LeftOut, Unspared, IsRest}
+use Rattle.spares.specs.Spare.{Inside, Within, AreLone, LoneIf, IsAlone, AloneIf, MatchedIf, Spares, SparesIf, LeftOut, IsRest}
 
 -- ── Words, arcs and elements that were passed ──
 

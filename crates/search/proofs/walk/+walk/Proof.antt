@@ -9,7 +9,6 @@ use borrow.Author.Needs.{needs}
 use borrow.Fn.Kinds.{In}
 use borrow.Fn.PlainCycle.{Measures, is, falls, and}
 use lib.ListN.{length, take, drop, length-take}
-use lib.Seq.{length-take-le}
 use Rattle.semantics.specs.Expression.{houseTable}
 use Rattle.semantics.specs.Tries.{tries}
 use Rattle.elements.specs.Bound.{sorted}
@@ -20,7 +19,7 @@ use Rattle.arcs.proofs.Gathering.{known-nothing, known-kept}
 use Rattle.search.specs.Scene.{sceneOf}
 use Rattle.search.specs.Search.{costFrom, rowsFrom}
 use Rattle.search.proofs.Trying.{Trying, trying-start, ended-all, ended-spent, trying-skip, trying-same, ended-stop, trying-turn}
-use Rattle.search.proofs.Worlds.{few-variables, few-inputs, few-elements, ranges-fit, next-element}
+use Rattle.search.proofs.Worlds.{few-variables, few-elements, ranges-fit, next-element}
 use Rattle.search.proofs.Walking.{Onward, Went, went, ended-same, tested-there, tested-few, leaf-handed, settled-leaf, aiming, stepping, known-same, try-on, try-off, try-left, known-behind, back, kept-of, noted-of}
 use Rattle.search.proofs.walk.walk.Reads as walk
 use Rattle.search.proofs.walk.walk.Kinds as walk-kinds
