@@ -52,8 +52,8 @@ module _ {ws ps : List ℕ} {v : ℕ} {ms begins : List ℕ} {at : ℕ} (w : IsT
     entries-up = rw d (w .up)
 
     -- a try for each entry of the place
-    pub match-aimed : PlacesFit ws ps → (e : Element) {width : ℕ} {words : List ℕ} → width ≡ widthAt ws (getD ps place 0) → IsParts ws v (at + 2) width words → IsMatch ws ps v ms begins e at words (record { element = e; count = (getD begins (place + 1) 0 - getD begins place 0) / (width + 1); from = getD begins place 0; width = width })
-    match-aimed fits e {width} {words} i j = record {
+    pub match-aimed : PlacesFit ws ps → (e : Element) {width count : ℕ} {words : List ℕ} → width ≡ widthAt ws (getD ps place 0) → IsParts ws v (at + 2) width words → count ≡ (getD begins (place + 1) 0 - getD begins place 0) / (width + 1) → IsMatch ws ps v ms begins e at words (record { element = e; count = count; from = getD begins place 0; width = width })
+    match-aimed fits e {width} {words = words} i j q = rw q (record {
       element = refl;
       entries = record { narrow = rw i (fits-at fits place (place-there (w .stands) d) .narrow); inside = rows-inside (getD begins place 0) (getD begins (place + 1) 0) (width + 1) (length ms) entries-up (rw d (w .inside)) };
       aimed = λ a next h x y.
@@ -63,4 +63,4 @@ module _ {ws ps : List ℕ} {v : ℕ} {ms begins : List ℕ} {at : ℕ} (w : IsT
           let z : length (rangesAt (placesAt ws ps) (placeOf ws at)) ≡ width = ap (λ (n : ℕ). length (rangesAt (placesAt ws ps) n)) (sym (p ∙ s .place)) ∙ width-at ws ps place (place-there (w .stands) d) ∙ sym i in
           let c : several width (readExpression ws v) (at + 2) ≡ read (a .components) (s .next) = rw (z, o) at (s .components) in
           record { wide = sym (several-length (readExpression ws v) width (at + 2) (a .components) (s .next) c); begin = j .begin (a .components) (s .next) c; from = rw p; many = rw p };
-    }
+    })

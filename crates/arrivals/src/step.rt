@@ -1,4 +1,5 @@
 // An arrival at an element of a plan: how many tries it makes, and each of them.
+use counts::find::entries;
 use elements::element::Element;
 use elements::element::Sort;
 use expression::read::Skipped;
@@ -88,9 +89,10 @@ fn arrive_match(
     let width = payload(net[places[place]]) as usize;
     parts_at(net, variables, at + 2, width, parts);
     known_parts(variables, slots, width, parts, known);
+    let count = entries(to - from, width + 1);
     Step {
         element: e,
-        count: (to - from) / (width + 1),
+        count: count,
         from: from,
         width: width,
     }

@@ -30,7 +30,7 @@ fn floor(words: &[u32], from: usize, k: usize, n: usize, code: u64) -> usize
 
 // How many entries of a size so many words have. A place has one to four components; a division by a known number is quick, and so is a chain of
 // tests, where a match would jump through a table.
-fn entries(words: usize, size: usize) -> usize
+pub fn entries(words: usize, size: usize) -> usize
     requires { ⌜ 0 < size ⌝ }
     ensures { λ r. ⌜ r ≡ words / size ⌝ }
 {

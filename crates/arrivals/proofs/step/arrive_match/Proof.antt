@@ -49,14 +49,14 @@ parts-at-requires c κs = let st = c .before .before .before .before .before .be
 known-parts-requires : tie.Need-known-parts-requires
 known-parts-requires c κs = let st = c .before .before .before .before .before .before .before .before .before .before .before .before .before .before .before .before in let w = st .pre .1 .1 .1 .0 in let n = fits-at (st .pre .0) _ (place-there (w .stands) (c .before .before .before .before .before .before .before .before .before .payload .ensures .0)) .narrow in let e = c .before .before .before .before .payload2 .ensures .0 in ((st .pre .1 .1 .0, omega arith), st .pre .1 .1 .1 .1 .blank)
 
-sub-t20 : tie.Need-sub-t20
-sub-t20 c = let st = c .before .before .before .before .before .before .before .before .before .before .before .before .before .before .before .before .before in let w = st .pre .1 .1 .1 .0 in entries-up w (c .before .before .before .before .before .before .before .before .before .before .payload .ensures .0)
+sub-entries : tie.Need-sub-entries
+sub-entries c = let st = c .before .before .before .before .before .before .before .before .before .before .before .before .before .before .before .before .before in let w = st .pre .1 .1 .1 .0 in entries-up w (c .before .before .before .before .before .before .before .before .before .before .payload .ensures .0)
 
-add-t16 : tie.Need-add-t16
-add-t16 c = let st = c .before .before .before .before .before .before .before .before .before .before .before .before .before .before .before .before .before in let w = st .pre .1 .1 .1 .0 in let n = fits-at (st .pre .0) _ (place-there (w .stands) (c .before .before .before .before .before .before .before .before .before .before .payload .ensures .0)) .narrow in let e = c .before .before .before .before .before .payload2 .ensures .0 in omega arith
+add-entries : tie.Need-add-entries
+add-entries c = let st = c .before .before .before .before .before .before .before .before .before .before .before .before .before .before .before .before .before in let w = st .pre .1 .1 .1 .0 in let n = fits-at (st .pre .0) _ (place-there (w .stands) (c .before .before .before .before .before .before .before .before .before .before .payload .ensures .0)) .narrow in let e = c .before .before .before .before .before .payload2 .ensures .0 in omega arith
 
 returns : tie.Need-returns
-returns c = let st = c .before .before .before .before .before .before .before .before .before .before .before .before .before .before .before .before .before in let w = st .pre .1 .1 .1 .0 in (match-aimed w (c .before .before .before .before .before .before .before .before .before .before .payload .ensures .0) (st .pre .0) (st .args .e) (c .before .before .before .before .before .payload2 .ensures .0) (c .before .before .before .parts-at .ensures), record { full = c .before .before .before .parts-at .ensures .full; knows = c .known-parts .ensures })
+returns c = let st = c .before .before .before .before .before .before .before .before .before .before .before .before .before .before .before .before .before .before in let w = st .pre .1 .1 .1 .0 in (match-aimed w (c .before .before .before .before .before .before .before .before .before .before .before .payload .ensures .0) (st .pre .0) (st .args .e) (c .before .before .before .before .before .before .payload2 .ensures .0) (c .before .before .before .before .parts-at .ensures) (c .entries .ensures), record { full = c .before .before .before .before .parts-at .ensures .full; knows = c .before .known-parts .ensures })
 
 pub arrive-match-spec : {M : Type 1} → statement M
 arrive-match-spec =
@@ -80,7 +80,7 @@ arrive-match-spec =
     add-parts-at
     parts-at-requires
     known-parts-requires
-    sub-t20
-    add-t16
-    (λ c. search needs)
+    sub-entries
+    add-entries
+    (λ c κs. search needs)
     returns)
