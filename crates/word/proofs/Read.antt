@@ -1,6 +1,5 @@
 -- What a test on an i32 says of the number, and what a cast and `!` make of it. The machine reads a parameter z back from its bits, as
--- toZ w32 (ofZ w32 z). `negsuc n` is -(n + 1), which is `!n`: `!` takes a negative number to its mag, and a natural one to the negative
--- number of that mag.
+-- toZ w32 (ofZ w32 z). `negsuc n` is -(n + 1), and `!` takes it to n, its mag.
 use mathlib.Core.Path.{_≡_, refl, sym, ap, _∙_}
 use mathlib.Core.Bool.{Bool, true, false}
 use Prim.Native.Nat.{ℕ, suc, _-_, _^_, _<_}
@@ -10,7 +9,7 @@ use lib.IntN.{ℤ, pos, negsuc}
 use lib.Signed.{mag, ltZ}
 use mir.Syntax.{w32, w64}
 use mir.Val.{SFits, ofZ, toZ}
-use mir.Facts.{toZ-ofZ, toZ-pos, toZ-neg, sfits-widen}
+use mir.Facts.{toZ-ofZ, toZ-pos, sfits-widen}
 use borrow.Author.Needs.{sfits-of}
 use borrow.Author.Tests.{ltb-true, eq-eqb, ne-eqb, eqb-true, eqb-false}
 use Rattle.semantics.specs.Order.{sameInteger}
@@ -60,12 +59,6 @@ module _ {z : ℤ} (f : SFits w32 z) where
   -- `z as i64`
   pub read-wide : toZ w64 (ofZ w64 z) ≡ z
   read-wide = toZ-ofZ (sfits-widen tt f)
-
--- `!n` of an i32 that holds a natural number
-pub not-natural : (n : ℕ) → n < 2 ^ 31 → toZ w32 (2 ^ 32 - 1 - n) ≡ negsuc n
-not-natural n h =
-    let e : 2 ^ 32 - 1 - n ≡ 2 ^ 32 - suc n = omega arith in
-    rw e (toZ-neg w32 n h)
 
 -- `x == y`: the machine compares the bits
 pub same-bits : (x y : ℤ) → SFits w32 x → SFits w32 y → eqb (ofZ w32 x) (ofZ w32 y) ≡ sameInteger x y
