@@ -18,12 +18,11 @@ use Rattle.counts.specs.declared.find.Spot.{Spot}
 use Rattle.counts.specs.Counts.{IsSpot}
 use Rattle.marking.specs.Marked.{positionOf}
 use Rattle.colours.proofs.Codes.{coloured-length}
-use Rattle.arcs.specs.Keys.{keyPlace, keyCode, widthOf, keyColour, KeyFits, sumOf}
-use Rattle.arcs.proofs.Keyed.{keys-total}
+use Rattle.arcs.specs.Keys.{keyPlace, keyCode, widthOf, keyColour, KeyFits}
 use Rattle.occurrence.proofs.Covering.{key-width}
 use Rattle.patch.specs.Patch.{Change}
 use Rattle.changes.specs.declared.change.NewCount.{NewCount}
-use Rattle.changes.specs.Changes.{IsCount, entrySize, Moves, after, Sees, IsChange}
+use Rattle.changes.specs.Changes.{IsCount, entrySize, Sees, IsChange}
 
 -- ── One count ──
 
@@ -54,29 +53,28 @@ key-size ws ps k count w e = e ∙ ap (entrySize count) (key-wide ws ps k w) ∙
 
 -- ── One change ──
 
-module _ {ws ps ik ia ok oa ms begins : List ℕ} (m : Moves ws ps ik ia ok oa begins) {k : ℕ} (x : KeyFits ws ps k) {s : Spot} (f : IsSpot ms begins (keyPlace k) (keyColour ws ps k) s) {width : ℕ} (w : width ≡ widthOf ws ps (keyPlace k)) (narrow : width ≤ 4) where
+module _ {ws ps ms begins : List ℕ} {k : ℕ} (x : KeyFits ws ps k) {s : Spot} (f : IsSpot ms begins (keyPlace k) (keyColour ws ps k) s) {width : ℕ} (w : width ≡ widthOf ws ps (keyPlace k)) (narrow : width ≤ 4) where
   found : (es : List Entry) → Sees ws ps ms begins es → (s .at ≡ positionOf es (key (keyPlace k) (keyColour ws ps k))) × (s .count ≡ countsOf es (keyPlace k) (keyColour ws ps k))
   found es v = f .found (placesAt ws ps) es (v .next) (v .marked) (v .begun) (rw (places-length ws ps) (x .there)) (key-width x)
 
-  module _ {taken made : ℕ} (t : taken ≡ sumOf ik ia k) (d : made ≡ sumOf ok oa k) where
-    after-is : (es : List Entry) → Sees ws ps ms begins es → s .count - taken + made ≡ after ws ps ik ia ok oa es (keyPlace k) (keyColour ws ps k)
-    after-is es v = rw (found es v .1, t, d, keys-total ik ia (m .ins .fit) x, keys-total ok oa (m .outs .fit) x)
+  pub changed : {taken made : ℕ} {n : NewCount} {old new : ℕ} → IsCount (s .count - taken + made) n → old ≡ entrySize (s .count) width → new ≡ entrySize (n .count) width → IsChange ws ps ms begins k taken made (record { over = n .over; at = s .at; old = old; count = n .count; new = new })
+  changed {taken} {made} {n} {old} {new} c o e = record {
+    over = λ es v. c .over ∙ ap (λ (z : ℕ). not (leb z mostCount)) (after-is es v);
+    told = λ es v p.
+        ap (λ (z : ℕ). change z (s .at) old) (c .same p ∙ after-is es v)
+        ∙ ap (λ (z : ℕ). change (countsOf es (keyPlace k) (keyColour ws ps k) - taken + made) z old) (found es v .0)
+        ∙ ap (change (countsOf es (keyPlace k) (keyColour ws ps k) - taken + made) (positionOf es (key (keyPlace k) (keyColour ws ps k)))) (size es v);
+    new = key-size ws ps k (n .count) w e;
+    small = c .small;
+    old-short = rw o (size-short (s .count) width narrow);
+    new-short = rw e (size-short (n .count) width narrow);
+  }
+    where
+      change : ℕ → ℕ → ℕ → Change
+      change z a b = record { place = keyPlace k; colour = keyColour ws ps k; count = z; at = a; old = b }
 
-    pub changed : {n : NewCount} {old new : ℕ} → IsCount (s .count - taken + made) n → old ≡ entrySize (s .count) width → new ≡ entrySize (n .count) width → IsChange ws ps ik ia ok oa ms begins k (record { over = n .over; at = s .at; old = old; count = n .count; new = new })
-    changed {n} {old} {new} c o e = record {
-      over = λ es v. c .over ∙ ap (λ (z : ℕ). not (leb z mostCount)) (after-is es v);
-      told = λ es v p.
-          ap (λ (z : ℕ). change z (s .at) old) (c .same p ∙ after-is es v)
-          ∙ ap (λ (z : ℕ). change (after ws ps ik ia ok oa es (keyPlace k) (keyColour ws ps k)) z old) (found es v .0)
-          ∙ ap (change (after ws ps ik ia ok oa es (keyPlace k) (keyColour ws ps k)) (positionOf es (key (keyPlace k) (keyColour ws ps k)))) (size es v);
-      new = key-size ws ps k (n .count) w e;
-      small = c .small;
-      old-short = rw o (size-short (s .count) width narrow);
-      new-short = rw e (size-short (n .count) width narrow);
-    }
-      where
-        change : ℕ → ℕ → ℕ → Change
-        change z a b = record { place = keyPlace k; colour = keyColour ws ps k; count = z; at = a; old = b }
+      after-is : (es : List Entry) → Sees ws ps ms begins es → s .count - taken + made ≡ countsOf es (keyPlace k) (keyColour ws ps k) - taken + made
+      after-is es v = ap (λ (z : ℕ). z - taken + made) (found es v .1)
 
-        size : (es : List Entry) → Sees ws ps ms begins es → old ≡ entrySize (countsOf es (keyPlace k) (keyColour ws ps k)) (length (keyColour ws ps k))
-        size es v = o ∙ ap (λ (z : ℕ). entrySize z width) (found es v .1) ∙ ap (entrySize (countsOf es (keyPlace k) (keyColour ws ps k))) (key-wide ws ps k w)
+      size : (es : List Entry) → Sees ws ps ms begins es → old ≡ entrySize (countsOf es (keyPlace k) (keyColour ws ps k)) (length (keyColour ws ps k))
+      size es v = o ∙ ap (λ (z : ℕ). entrySize z width) (found es v .1) ∙ ap (entrySize (countsOf es (keyPlace k) (keyColour ws ps k))) (key-wide ws ps k w)

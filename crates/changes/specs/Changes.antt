@@ -1,20 +1,20 @@
 -- 01, "Enabling and stepping": "each count after (count - inputs + outputs) at most 16,383". The counts that a step changes are those of the
--- keys that are taken or made; they are told rising, each once, and where their old entries are.
+-- keys that are not taken as often as they are made; they are told rising, each once, and where their old entries are.
 -- Rests on Keys, arcs/specs/Keys, patch/specs/Patch and semantics/specs/Enabling.
 use mathlib.Core.Path.{_≡_}
 use mathlib.Core.Bool.{Bool, false, cond, not}
-use mathlib.Core.List.{List, map}
-use Prim.Native.Nat.{ℕ, _+_, _≤_, _<_}
+use mathlib.Core.List.{List, _++_, map}
+use Prim.Native.Nat.{ℕ, _+_, _-_, _≤_, _<_}
 use lib.Dec.{leb, eqb}
 use lib.ListN.{length}
 use Rattle.semantics.specs.Refusal.{mostCount}
-use Rattle.semantics.specs.Lists.{Every}
+use Rattle.semantics.specs.Lists.{Every, select}
 use Rattle.semantics.specs.Reading.{read}
 use Rattle.semantics.specs.Marking.{Entry, key, Counts, countsOf, entryWords}
 use Rattle.semantics.specs.Enabling.{effect}
 use Rattle.net.specs.Places.{placesAt, PlacesFit}
 use Rattle.marking.specs.Marked.{markingRead, Begins, positionOf}
-use Rattle.arcs.specs.Keys.{keyPlace, keyColour, keyFlows, KeyFits}
+use Rattle.arcs.specs.Keys.{keyPlace, keyColour, keyFlows, KeyFits, sumOf}
 use Rattle.patch.specs.Patch.{Change}
 use Rattle.changes.specs.declared.change.NewCount.{NewCount}
 use Rattle.changes.specs.declared.change.Changed.{Changed}
@@ -55,13 +55,25 @@ after ws ps ik ia ok oa es = effect (countsOf es) (keyFlows ws ps ik ia) (keyFlo
 abbrev pub within : List ℕ → List ℕ → Counts → ℕ → Bool
 within ws ps m k = leb (m (keyPlace k) (keyColour ws ps k)) mostCount
 
--- the change of a key from a marking's entries to other counts
-abbrev pub changeAt : List ℕ → List ℕ → List Entry → Counts → ℕ → Change
-changeAt ws ps es m k = record { place = keyPlace k; colour = keyColour ws ps k; count = m (keyPlace k) (keyColour ws ps k); at = positionOf es (key (keyPlace k) (keyColour ws ps k)); old = entrySize (countsOf es (keyPlace k) (keyColour ws ps k)) (length (keyColour ws ps k)) }
+-- a key of which something else is made than is taken: the count of another stays
+abbrev pub isUneven : List ℕ → List ℕ → List ℕ → List ℕ → ℕ → Bool
+isUneven ik ia ok oa k = not (eqb (sumOf ik ia k) (sumOf ok oa k))
 
--- the changes of the keys from a number on
-abbrev pub changesFrom : List ℕ → List ℕ → List Entry → Counts → List ℕ → ℕ → List Change
-changesFrom ws ps es m ks floor = map (changeAt ws ps es m) (keysFrom floor ks)
+-- those from a number on
+abbrev pub unevenFrom : List ℕ → List ℕ → List ℕ → List ℕ → ℕ → List ℕ
+unevenFrom ik ia ok oa floor = select (isUneven ik ia ok oa) (keysFrom floor (ik ++ ok))
+
+-- the change of a key from its count among a marking's entries to another
+abbrev pub changeTo : List ℕ → List ℕ → List Entry → ℕ → ℕ → Change
+changeTo ws ps es k n = record { place = keyPlace k; colour = keyColour ws ps k; count = n; at = positionOf es (key (keyPlace k) (keyColour ws ps k)); old = entrySize (countsOf es (keyPlace k) (keyColour ws ps k)) (length (keyColour ws ps k)) }
+
+-- to that of other counts
+abbrev pub changeAt : List ℕ → List ℕ → List Entry → Counts → ℕ → Change
+changeAt ws ps es m k = changeTo ws ps es k (m (keyPlace k) (keyColour ws ps k))
+
+-- the changes of the uneven keys from a number on
+abbrev pub changesFrom : List ℕ → List ℕ → List ℕ → List ℕ → List ℕ → List ℕ → List Entry → ℕ → List Change
+changesFrom ws ps ik ia ok oa es floor = map (changeAt ws ps es (after ws ps ik ia ok oa es)) (unevenFrom ik ia ok oa floor)
 
 -- ── By the entries of a marking that was read ──
 
@@ -70,10 +82,10 @@ pub record Sees (ws ps ms begins : List ℕ) (es : List Entry) : Type 0 where
   pub marked : markingRead (placesAt ws ps) ms ≡ read es next
   pub begun : Begins (placesAt ws ps) es begins
 
--- the change of a key
-pub record IsChange (ws ps ik ia ok oa ms begins : List ℕ) (k : ℕ) (r : Changed) : Type 0 where
-  pub over : (es : List Entry) → Sees ws ps ms begins es → r .over ≡ not (within ws ps (after ws ps ik ia ok oa es) k)
-  pub told : (es : List Entry) → Sees ws ps ms begins es → r .over ≡ false → record { place = keyPlace k; colour = keyColour ws ps k; count = r .count; at = r .at; old = r .old } ≡ changeAt ws ps es (after ws ps ik ia ok oa es) k
+-- the change of a key of which so much is taken and made
+pub record IsChange (ws ps ms begins : List ℕ) (k taken made : ℕ) (r : Changed) : Type 0 where
+  pub over : (es : List Entry) → Sees ws ps ms begins es → r .over ≡ not (leb (countsOf es (keyPlace k) (keyColour ws ps k) - taken + made) mostCount)
+  pub told : (es : List Entry) → Sees ws ps ms begins es → r .over ≡ false → record { place = keyPlace k; colour = keyColour ws ps k; count = r .count; at = r .at; old = r .old } ≡ changeTo ws ps es k (countsOf es (keyPlace k) (keyColour ws ps k) - taken + made)
   pub new : r .new ≡ length (entryWords (keyPlace k) (keyColour ws ps k) (r .count))
   pub small : r .count < 16384
   pub old-short : r .old ≤ 5

@@ -18,10 +18,10 @@ use Rattle.semantics.specs.Expression.{houseTable, bound, given}
 use Rattle.semantics.specs.Reading.{read}
 use Rattle.semantics.specs.Net.{Place, Arc}
 use Rattle.semantics.specs.Marking.{Counts, Proper, countsOf}
-use Rattle.semantics.specs.Enabling.{Flow, effect, flows, coversAll, isEnabled, fits, withinCounts, Firing, moved, stopped, occurBy, occur}
+use Rattle.semantics.specs.Enabling.{Flow, total, effect, holds, flows, covers, coversAll, isEnabled, fits, withinCounts, Firing, moved, stopped, occurBy, occur}
 use Rattle.semantics.specs.Run.{roomed, fire}
-use Rattle.semantics.proofs.Tests.{either, not-both, same-test, Every-at, every-at, every-of}
-use Rattle.semantics.proofs.Enabling.{at-named}
+use Rattle.semantics.proofs.Tests.{either, and-right, not-both, same-test, Every-at, every-at, every-of}
+use Rattle.semantics.proofs.Enabling.{at-named, covers-all}
 use Rattle.semantics.proofs.Markings.{step-proper}
 use Rattle.semantics.proofs.Step.{Limited, within-all, all-within, occurs-step}
 use Rattle.semantics.proofs.Members.{none-some}
@@ -231,8 +231,15 @@ module _ {ws ps gs is os ms begins bs : List ℕ} (q : FireableAt ws ps gs is os
               let (s, same) = occurs-step houseTable (q .net) (q .transition) (countsOf (q .entries)) (q .binding) (proper .limited) (after ws ps ik ia ok oa (q .entries)) moves in
               subst (Proper (q .net)) (sym same) (step-proper houseTable (q .net) (q .transition) (countsOf (q .entries)) (q .binding) proper (λ a j. Every-at (λ (a : Arc). a .place < length (q .net .places)) (q .outputs) j) s)
 
+          -- what it takes is covered
+          taken-covered : (p : ℕ) (c : List ℤ) → total (keyFlows ws ps ik ia) p c ≤ countsOf (q .entries) p c
+          unfolding isEnabled
+          taken-covered p c =
+              let t : covers (countsOf (q .entries)) (taken .flows-are) ≡ true = rw (taken .told) at (and-right (every (holds houseTable (bound (q .binding))) (q .transition .guard)) _ enabled) in
+              rw (← taken .moving-are, total-moving (taken .flows-are) p c) (covers-all (countsOf (q .entries)) (taken .flows-are) t p c)
+
           pub fired-stepping : Moves ws ps ik ia ok oa begins → Stepping ws ps ik ia ok oa ms begins
-          fired-stepping m = record { moves = m; net = q .net; entries = q .entries; placed = q .placed; sees = sees; proper = new-proper }
+          fired-stepping m = record { moves = m; net = q .net; entries = q .entries; placed = q .placed; sees = sees; covered = taken-covered; proper = new-proper }
 
           pub fired-step : Moves ws ps ik ia ok oa begins → {buffer : List ℕ} {r : Fired} {rest begins′ : List ℕ} → IsStep ws ps ik ia ok oa ms begins buffer r rest begins′ → FiredTo (q .net) buffer begins r rest begins′ (fire houseTable (q .net) (length buffer) (q .transition) (countsOf (q .entries)) (q .binding))
           unfolding fire fired-stepping

@@ -3,19 +3,21 @@ use mathlib.Core.Path.{_≡_, refl, sym, ap, _∙_, subst}
 use mathlib.Core.Bool.{true, false, not}
 use mathlib.Core.List.{List, _∷_, _++_, List·Memᴰ, List·Memᴰ·head}
 use Prim.Native.Nat.{ℕ, suc, _+_, _-_, _*_, _≤_, _<_}
-use borrow.Author.Tests.{not-true, not-false}
+use borrow.Author.Tests.{eq-eqb, ne-eqb, not-true, not-false}
 use native.Mathlib.Omega.{arith}
 use lib.Dec.{leb}
 use lib.ListN.{length, length-append}
-use Rattle.semantics.specs.Lists.{Every, every}
-use Rattle.semantics.specs.Marking.{Entry, key, entryWords}
+use Rattle.semantics.specs.Refusal.{mostCount}
+use Rattle.semantics.specs.Lists.{Every, every, select}
+use Rattle.semantics.specs.Marking.{Entry, countsOf, entryWords}
 use Rattle.semantics.proofs.Tests.{not-both, Every-at, Every-of, selected}
 use Rattle.semantics.proofs.Members.{every-both}
-use Rattle.arcs.specs.Keys.{KeyFits}
+use Rattle.arcs.specs.Keys.{keyPlace, keyColour, KeyFits, sumOf}
+use Rattle.arcs.proofs.Keyed.{keys-total}
 use Rattle.patch.specs.Patch.{Change, oldLength, newLength}
 use Rattle.changes.specs.declared.change.Changed.{Changed}
 use Rattle.changes.specs.Keys.{sortKeys, keysFrom, noKey, firstOf}
-use Rattle.changes.specs.Changes.{Moves, after, within, changesFrom, Sees, IsChange}
+use Rattle.changes.specs.Changes.{Moves, after, within, unevenFrom, changeTo, changeAt, changesFrom, Sees, IsChange}
 use Rattle.steps.specs.Steps.{IsMeasured}
 use Rattle.changes.proofs.Sorted.{Low, sort-of, keys-stay, keys-next, keys-none, keys-few}
 
@@ -63,9 +65,9 @@ module _ {ws ps ik ia ok oa begins : List ℕ} (m : Moves ws ps ik ia ok oa begi
 -- what was measured before a key
 pub record Measuring (ws ps ik ia ok oa ms begins : List ℕ) (k old new : ℕ) : Type 0 where
   pub first : k ≡ firstOf (keysFrom k (ik ++ ok))
-  pub limit : (es : List Entry) → Sees ws ps ms begins es → every (within ws ps (after ws ps ik ia ok oa es)) (keysFrom k (ik ++ ok)) ≡ every (within ws ps (after ws ps ik ia ok oa es)) (keysFrom 0 (ik ++ ok))
-  pub old-same : (es : List Entry) → Sees ws ps ms begins es → old + oldLength (changesFrom ws ps es (after ws ps ik ia ok oa es) (ik ++ ok) k) ≡ oldLength (changesFrom ws ps es (after ws ps ik ia ok oa es) (ik ++ ok) 0)
-  pub new-same : (es : List Entry) → Sees ws ps ms begins es → new + newLength (changesFrom ws ps es (after ws ps ik ia ok oa es) (ik ++ ok) k) ≡ newLength (changesFrom ws ps es (after ws ps ik ia ok oa es) (ik ++ ok) 0)
+  pub limit : (es : List Entry) → Sees ws ps ms begins es → every (within ws ps (after ws ps ik ia ok oa es)) (unevenFrom ik ia ok oa k) ≡ every (within ws ps (after ws ps ik ia ok oa es)) (unevenFrom ik ia ok oa 0)
+  pub old-same : (es : List Entry) → Sees ws ps ms begins es → old + oldLength (changesFrom ws ps ik ia ok oa es k) ≡ oldLength (changesFrom ws ps ik ia ok oa es 0)
+  pub new-same : (es : List Entry) → Sees ws ps ms begins es → new + newLength (changesFrom ws ps ik ia ok oa es k) ≡ newLength (changesFrom ws ps ik ia ok oa es 0)
   pub old-short : old + 5 * length (keysFrom k (ik ++ ok)) ≤ 80
   pub new-short : new + 5 * length (keysFrom k (ik ++ ok)) ≤ 80
 
@@ -86,7 +88,7 @@ module _ {ws ps ik ia ok oa ms begins : List ℕ} (m : Moves ws ps ik ia ok oa b
 
   module _ {k old new : ℕ} (a : Measuring ws ps ik ia ok oa ms begins k old new) where
     pub measuring-end : noKey ≤ k → {n : ℕ} → IsMeasured ws ps ik ia ok oa ms begins (record { over = false; n = n; old = old; new = new })
-    unfolding every oldLength newLength
+    unfolding every select oldLength newLength
     measuring-end h =
         let e = keys-none k (ik ++ ok) (all-low m) h in
         let n = a .new-short in
@@ -103,45 +105,84 @@ module _ {ws ps ik ia ok oa ms begins : List ℕ} (m : Moves ws ps ik ia ok oa b
     pub keys-are : k < noKey → keysFrom k (ik ++ ok) ≡ k ∷ keysFrom (k + 1) (ik ++ ok)
     keys-are h = keys-next k (ik ++ ok) (a .first) h
 
-    module _ (h : k < noKey) {c : Changed} (x : IsChange ws ps ik ia ok oa ms begins k c) where
-      pub measuring-over : c .over ≡ true → IsMeasured ws ps ik ia ok oa ms begins (record { over = true; n = 0; old = 0; new = 0 })
-      unfolding every
-      measuring-over t = record {
-        over = λ es v. let w = not-true (within ws ps (after ws ps ik ia ok oa es) k) (sym (x .over es v) ∙ t) in ap not (rw (keys-are h, w) at (a .limit es v));
-        old = λ es v p. absurd (not-both true refl p);
-        new = λ es v p. absurd (not-both true refl p);
-        old-short = omega arith;
-        new-short = omega arith;
-      }
-
-      -- the words that the next change adds
-      pub measuring-room : (old + c .old ≤ 80) × (new + c .new ≤ 80)
-      measuring-room =
-          let l : length (keysFrom k (ik ++ ok)) ≡ suc (length (keysFrom (k + 1) (ik ++ ok))) = ap length (keys-are h) in
-          let a₁ = a .old-short in
-          let a₂ = a .new-short in
-          let b₁ = x .old-short in
-          let b₂ = x .new-short in
-          (omega arith, omega arith)
-
+    module _ (h : k < noKey) where
       -- fewer keys are ahead
       pub measuring-less : {k′ : ℕ} → k′ ≡ firstOf (keysFrom (k + 1) (ik ++ ok)) → length (keysFrom k′ (ik ++ ok)) < length (keysFrom k (ik ++ ok))
       measuring-less e = let s = ap length (next-same m (k + 1) e) in let l = ap length (keys-are h) in omega arith
 
-      pub measuring-turn : c .over ≡ false → {k′ : ℕ} → k′ ≡ firstOf (keysFrom (k + 1) (ik ++ ok)) → Measuring ws ps ik ia ok oa ms begins k′ (old + c .old) (new + c .new)
-      unfolding every oldLength newLength
-      measuring-turn t {k′} e =
-          let s = next-same m (k + 1) e in
-          let l : length (keysFrom k (ik ++ ok)) ≡ suc (length (keysFrom (k + 1) (ik ++ ok))) = ap length (keys-are h) in
-          let a₁ = a .old-short in
-          let a₂ = a .new-short in
-          let b₁ = x .old-short in
-          let b₂ = x .new-short in
-          record {
-            first = next-first m (k + 1) e;
-            limit = λ es v. let w = not-false (within ws ps (after ws ps ik ia ok oa es) k) (sym (x .over es v) ∙ t) in rw s (rw (keys-are h, w) at (a .limit es v));
-            old-same = λ es v. let d = ap (λ (c : Change). c .old) (x .told es v t) in let o = rw (keys-are h) at (a .old-same es v) in rw s (omega arith);
-            new-same = λ es v. let d = x .new ∙ ap (λ (c : Change). length (entryWords (c .place) (c .colour) (c .count))) (x .told es v t) in let o = rw (keys-are h) at (a .new-same es v) in rw s (omega arith);
-            old-short = rw s (omega arith);
-            new-short = rw s (omega arith);
+      module _ {taken made : ℕ} (t : taken ≡ sumOf ik ia k) (d : made ≡ sumOf ok oa k) where
+        -- ── A key of which as much is made as is taken ──
+
+        module _ (i : taken ≡ made) where
+          pub even-passed : unevenFrom ik ia ok oa k ≡ unevenFrom ik ia ok oa (k + 1)
+          unfolding select
+          even-passed = rw (keys-are h, eq-eqb (sumOf ik ia k) (sumOf ok oa k) (sym t ∙ i ∙ d))
+
+          pub measuring-pass : {k′ : ℕ} → k′ ≡ firstOf (keysFrom (k + 1) (ik ++ ok)) → Measuring ws ps ik ia ok oa ms begins k′ old new
+          measuring-pass {k′} e =
+              let s = next-same m (k + 1) e in
+              let l : length (keysFrom k (ik ++ ok)) ≡ suc (length (keysFrom (k + 1) (ik ++ ok))) = ap length (keys-are h) in
+              let a₁ = a .old-short in
+              let a₂ = a .new-short in
+              record {
+                first = next-first m (k + 1) e;
+                limit = λ es v. rw s (rw even-passed at (a .limit es v));
+                old-same = λ es v. rw s (rw even-passed at (a .old-same es v));
+                new-same = λ es v. rw s (rw even-passed at (a .new-same es v));
+                old-short = rw s (omega arith);
+                new-short = rw s (omega arith);
+              }
+
+        -- ── One whose count changes ──
+
+        module _ (i : taken ≡ made → ⊥) {c : Changed} (x : IsChange ws ps ms begins k taken made c) where
+          pub uneven-are : unevenFrom ik ia ok oa k ≡ k ∷ unevenFrom ik ia ok oa (k + 1)
+          unfolding select
+          uneven-are = rw (keys-are h, ne-eqb (sumOf ik ia k) (sumOf ok oa k) (λ e. i (t ∙ e ∙ sym d)))
+
+          after-is : (es : List Entry) → countsOf es (keyPlace k) (keyColour ws ps k) - taken + made ≡ after ws ps ik ia ok oa es (keyPlace k) (keyColour ws ps k)
+          after-is es = let f = key-fits m (a .first) h in rw (t, d, keys-total ik ia (m .ins .fit) f, keys-total ok oa (m .outs .fit) f)
+
+          key-over : (es : List Entry) → Sees ws ps ms begins es → c .over ≡ not (within ws ps (after ws ps ik ia ok oa es) k)
+          key-over es v = x .over es v ∙ ap (λ (z : ℕ). not (leb z mostCount)) (after-is es)
+
+          pub key-told : (es : List Entry) → Sees ws ps ms begins es → c .over ≡ false → record { place = keyPlace k; colour = keyColour ws ps k; count = c .count; at = c .at; old = c .old } ≡ changeAt ws ps es (after ws ps ik ia ok oa es) k
+          key-told es v p = x .told es v p ∙ ap (changeTo ws ps es k) (after-is es)
+
+          pub measuring-over : c .over ≡ true → IsMeasured ws ps ik ia ok oa ms begins (record { over = true; n = 0; old = 0; new = 0 })
+          unfolding every
+          measuring-over y = record {
+            over = λ es v. let w = not-true (within ws ps (after ws ps ik ia ok oa es) k) (sym (key-over es v) ∙ y) in ap not (rw (uneven-are, w) at (a .limit es v));
+            old = λ es v p. absurd (not-both true refl p);
+            new = λ es v p. absurd (not-both true refl p);
+            old-short = omega arith;
+            new-short = omega arith;
           }
+
+          -- the words that the next change adds
+          pub measuring-room : (old + c .old ≤ 80) × (new + c .new ≤ 80)
+          measuring-room =
+              let l : length (keysFrom k (ik ++ ok)) ≡ suc (length (keysFrom (k + 1) (ik ++ ok))) = ap length (keys-are h) in
+              let a₁ = a .old-short in
+              let a₂ = a .new-short in
+              let b₁ = x .old-short in
+              let b₂ = x .new-short in
+              (omega arith, omega arith)
+
+          pub measuring-turn : c .over ≡ false → {k′ : ℕ} → k′ ≡ firstOf (keysFrom (k + 1) (ik ++ ok)) → Measuring ws ps ik ia ok oa ms begins k′ (old + c .old) (new + c .new)
+          unfolding every oldLength newLength
+          measuring-turn y {k′} e =
+              let s = next-same m (k + 1) e in
+              let l : length (keysFrom k (ik ++ ok)) ≡ suc (length (keysFrom (k + 1) (ik ++ ok))) = ap length (keys-are h) in
+              let a₁ = a .old-short in
+              let a₂ = a .new-short in
+              let b₁ = x .old-short in
+              let b₂ = x .new-short in
+              record {
+                first = next-first m (k + 1) e;
+                limit = λ es v. let w = not-false (within ws ps (after ws ps ik ia ok oa es) k) (sym (key-over es v) ∙ y) in rw s (rw (uneven-are, w) at (a .limit es v));
+                old-same = λ es v. let d = ap (λ (c : Change). c .old) (key-told es v y) in let o = rw uneven-are at (a .old-same es v) in rw s (omega arith);
+                new-same = λ es v. let d = x .new ∙ ap (λ (c : Change). length (entryWords (c .place) (c .colour) (c .count))) (key-told es v y) in let o = rw uneven-are at (a .new-same es v) in rw s (omega arith);
+                old-short = rw s (omega arith);
+                new-short = rw s (omega arith);
+              }

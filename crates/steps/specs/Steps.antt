@@ -5,23 +5,24 @@ use mathlib.Core.Bool.{true, false, cond, not}
 use mathlib.Core.List.{List, [], _∷_, _++_}
 use Prim.Native.Nat.{ℕ, zero, suc, _+_, _≤_, _<_}
 use lib.Dec.{ltb}
+use lib.IntN.{ℤ}
 use lib.ListN.{length, getD, drop}
 use Rattle.semantics.specs.declared.Fired.{Fired}
 use Rattle.semantics.specs.Refusal.{overCount, mostWords}
 use Rattle.semantics.specs.Lists.{every}
 use Rattle.semantics.specs.Net.{Net}
-use Rattle.semantics.specs.Marking.{Entry, Proper}
+use Rattle.semantics.specs.Marking.{Entry, Proper, countsOf}
 use Rattle.semantics.specs.Order.{Rising}
-use Rattle.semantics.specs.Enabling.{Firing, moved, stopped}
+use Rattle.semantics.specs.Enabling.{total, Firing, moved, stopped}
 use Rattle.semantics.specs.Run.{roomed}
 use Rattle.semantics.specs.Calls.{FireEnd, firedBy}
 use Rattle.net.specs.Places.{placesAt, PlacesFit}
 use Rattle.marking.specs.Marked.{BeginsFor}
-use Rattle.arcs.specs.Keys.{keyPlace, keyColour}
+use Rattle.arcs.specs.Keys.{keyPlace, keyColour, keyFlows}
 use Rattle.patch.specs.Patch.{Change, changeKey, patched, oldLength, newLength, oldBelow, newBelow, InOrder}
 use Rattle.steps.specs.declared.step.Listed.{Listed}
 use Rattle.changes.specs.Keys.{keysFrom}
-use Rattle.changes.specs.Changes.{Moves, after, within, changesFrom, Sees}
+use Rattle.changes.specs.Changes.{Moves, after, within, unevenFrom, changesFrom, Sees}
 
 -- answer and buffer, as the definition of the call has them
 abbrev pub fireEnd : Fired → List ℕ → FireEnd
@@ -37,11 +38,11 @@ pub record FiredTo (net : Net) (buffer begins : List ℕ) (r : Fired) (rest begi
   pub end : fireEnd r rest ≡ firedBy net buffer x
   pub begun : BeginsThen net begins begins′ x
 
--- the words of all old entries and of those that take their place
+-- the words of the old entries of uneven keys and of those that take their place
 pub record IsMeasured (ws ps ik ia ok oa ms begins : List ℕ) (r : Listed) : Type 0 where
-  pub over : (es : List Entry) → Sees ws ps ms begins es → r .over ≡ not (every (within ws ps (after ws ps ik ia ok oa es)) (keysFrom 0 (ik ++ ok)))
-  pub old : (es : List Entry) → Sees ws ps ms begins es → r .over ≡ false → r .old ≡ oldLength (changesFrom ws ps es (after ws ps ik ia ok oa es) (ik ++ ok) 0)
-  pub new : (es : List Entry) → Sees ws ps ms begins es → r .over ≡ false → r .new ≡ newLength (changesFrom ws ps es (after ws ps ik ia ok oa es) (ik ++ ok) 0)
+  pub over : (es : List Entry) → Sees ws ps ms begins es → r .over ≡ not (every (within ws ps (after ws ps ik ia ok oa es)) (unevenFrom ik ia ok oa 0))
+  pub old : (es : List Entry) → Sees ws ps ms begins es → r .over ≡ false → r .old ≡ oldLength (changesFrom ws ps ik ia ok oa es 0)
+  pub new : (es : List Entry) → Sees ws ps ms begins es → r .over ≡ false → r .new ≡ newLength (changesFrom ws ps ik ia ok oa es 0)
   pub old-short : r .old ≤ 80
   pub new-short : r .new ≤ 80
 
@@ -73,11 +74,11 @@ pub record Tabled (ps keys counts : List ℕ) (n : ℕ) : Type 0 where
   pub there : (i : ℕ) → i < n → keyPlace (getD keys i 0) < length ps
   pub small : (i : ℕ) → i < n → getD counts i 0 < 16384
 
--- the changes of all keys
+-- the changes of all uneven keys
 pub record IsListed (ws ps ik ia ok oa ms begins : List ℕ) (r : Listed) (keys ats olds counts : List ℕ) : Type 0 where
   pub measured : IsMeasured ws ps ik ia ok oa ms begins r
   pub tabled : Tabled ps keys counts (r .n)
-  pub same : (es : List Entry) → Sees ws ps ms begins es → r .over ≡ false → listed ws ps keys ats olds counts (r .n) ≡ changesFrom ws ps es (after ws ps ik ia ok oa es) (ik ++ ok) 0
+  pub same : (es : List Entry) → Sees ws ps ms begins es → r .over ≡ false → listed ws ps keys ats olds counts (r .n) ≡ changesFrom ws ps ik ia ok oa es 0
 
 -- the marking with them made has room
 pub record Writable (ws ps ms keys ats olds counts : List ℕ) (n : ℕ) (buffer : List ℕ) : Type 0 where
@@ -115,13 +116,14 @@ pub record IsMoved (ws ps keys olds counts : List ℕ) (n : ℕ) (begins begins�
 
 -- ── A step ──
 
--- a marking of a net; where no count passes the limit, the counts after are proper
+-- a marking of a net that covers what is taken; where no count passes the limit, the counts after are proper
 pub record Stepping (ws ps ik ia ok oa ms begins : List ℕ) : Type 0 where
   pub moves : Moves ws ps ik ia ok oa begins
   pub net : Net
   pub entries : List Entry
   pub placed : net .places ≡ placesAt ws ps
   pub sees : Sees ws ps ms begins entries
+  pub covered : (p : ℕ) (c : List ℤ) → total (keyFlows ws ps ik ia) p c ≤ countsOf entries p c
   pub proper : every (within ws ps (after ws ps ik ia ok oa entries)) (keysFrom 0 (ik ++ ok)) ≡ true → Proper net (after ws ps ik ia ok oa entries)
 
 -- 15 or 16, or the new marking, and where its places begin
