@@ -18,8 +18,9 @@ use Rattle.counts.specs.declared.find.Spot.{Spot}
 use Rattle.counts.specs.Counts.{IsSpot}
 use Rattle.marking.specs.Marked.{positionOf}
 use Rattle.colours.proofs.Codes.{coloured-length}
-use Rattle.arcs.specs.Keys.{keyPlace, keyCode, widthOf, keyColour, KeyFits, sumOf}
-use Rattle.arcs.proofs.Keyed.{keys-total}
+use Rattle.arcs.specs.Keys.{keyPlace, keyCode, widthOf, keyColour, KeyFits}
+use Rattle.gathering.specs.Gather.{sumOf}
+use Rattle.gathering.proofs.Keyed.{keys-total}
 use Rattle.occurrence.proofs.Covering.{key-width}
 use Rattle.patch.specs.Patch.{Change}
 use Rattle.changes.specs.declared.change.NewCount.{NewCount}
