@@ -1,16 +1,14 @@
--- What arcs move, as the code tells it: a place and a colour are one number, a key, the place above the 56 bits of the colour's code.
+-- What an arc moves, as the code tells it: a place and a colour are one number, a key, the place above the 56 bits of the colour's code.
 -- Rests on Flow and colours/specs/Code.
 use mathlib.Core.Path.{_≡_}
 use Prim.Native.Nat.{ℕ, _+_, _*_, _/_, _%_, _≤_, _<_, _^_}
 use mathlib.Core.Bool.{Bool, true, false, cond, _&&_, _||_}
 use mathlib.Core.List.{List, [], _∷_}
 use mathlib.Core.Option.{Option, none, some}
-use lib.Dec.{leb, eqb}
+use lib.Dec.{eqb}
 use lib.IntN.{ℤ}
-use lib.ListN.{getD, take, length}
-use Rattle.semantics.specs.Lists.{Every, every, select}
+use lib.ListN.{getD, length}
 use Rattle.semantics.specs.Word.{within}
-use Rattle.semantics.specs.Expression.{given}
 use Rattle.semantics.specs.Net.{rangesAt}
 use Rattle.semantics.specs.ReadNet.{readExpression}
 use Rattle.semantics.specs.Order.{inRanges}
@@ -28,8 +26,7 @@ use Rattle.arcs.specs.declared.flow.Packed.{Packed}
 use Rattle.arcs.specs.declared.flow.Packed.the-variants.{Code, Outside as Packed-outside, Nothing as Packed-none}
 use Rattle.arcs.specs.declared.flow.Moved.{Moved}
 use Rattle.arcs.specs.declared.flow.Moved.the-variants.{Tokens, Idle, Outside, Nothing}
-use Rattle.arcs.specs.declared.gather.Gathered.{Gathered}
-use Rattle.arcs.specs.Flow.{colourAt, flowAt, flowsAt}
+use Rattle.arcs.specs.Flow.{colourAt, flowAt}
 
 -- ── Keys ──
 
@@ -125,43 +122,3 @@ Says ws ps o Nothing = o ≡ none
 -- what the arc at a position moves
 pub record IsMoved (ws ps bs : List ℕ) (at : ℕ) (r : Moved) : Type 0 where
   pub says : Says ws ps (flowAt ws ps bs at) r
-
--- ── Several arcs ──
-
-abbrev pub moving : Flow → Bool
-moving f = leb 1 (f .amount)
-
--- the flows that move something; none where there are none, or one moves a colour that its place cannot have
-abbrev pub gatheredBy : List ℕ → List ℕ → Option (List Flow) → Option (List Flow)
-gatheredBy ws ps none = none
-gatheredBy ws ps (some fs) = given (every (fitsAt ws ps) fs) (select moving fs)
-
--- what the i first of the arcs at positions move is known, as the n keys and amounts that stand at the front of two lists
-pub record Known (ws ps bs ats : List ℕ) (i n : ℕ) (keys amounts : List ℕ) : Type 0 where
-  pub inside : i ≤ length ats
-  pub few : n ≤ i
-  pub fit : Every (KeyFits ws ps) (take n keys)
-  pub flows : List Flow
-  pub told : flowsAt ws ps bs (take i ats) ≡ some flows
-  pub same : gatheredBy ws ps (some flows) ≡ some (keyFlows ws ps (take n keys) (take n amounts))
-
--- what all of them move, and as far as that is known; the lists, written in lent arrays, are as long as those
-pub record IsGathered (ws ps bs ats : List ℕ) (r : Gathered) (keys amounts : List ℕ) : Type 0 where
-  pub keys-full : length keys ≡ 8
-  pub amounts-full : length amounts ≡ 8
-  pub same : given (r .some) (keyFlows ws ps (take (r .n) keys) (take (r .n) amounts)) ≡ gatheredBy ws ps (flowsAt ws ps bs ats)
-  pub few : r .n ≤ 8
-  pub known : Known ws ps bs ats (r .arcs) (r .n) keys amounts
-
--- the first n keys and amounts are left as they were, in lists of the same length
-pub record Keeps (n : ℕ) (keys amounts keys′ amounts′ : List ℕ) : Type 0 where
-  pub keys-kept : take n keys′ ≡ take n keys
-  pub amounts-kept : take n amounts′ ≡ take n amounts
-  pub keys-long : length keys′ ≡ length keys
-  pub amounts-long : length amounts′ ≡ length amounts
-
--- the sum of the amounts of a key
-unfoldable pub sumOf : List ℕ → List ℕ → ℕ → ℕ
-sumOf [] as′ k = 0
-sumOf (j ∷ ks) [] k = 0
-sumOf (j ∷ ks) (a ∷ as′) k = cond (eqb j k) a 0 + sumOf ks as′ k

@@ -1,6 +1,4 @@
-// What arcs say under lent binding words, told from their words in a net.
+// What an arc says under lent binding words, told from its words in a net.
 
 // What one arc moves.
 pub mod flow;
-// What several arcs move.
-pub mod gather;

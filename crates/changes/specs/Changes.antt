@@ -1,6 +1,6 @@
 -- 01, "Enabling and stepping": "each count after (count - inputs + outputs) at most 16,383". The counts that a step changes are those of the
 -- keys that are not taken as often as they are made; they are told rising, each once, and where their old entries are.
--- Rests on Keys, arcs/specs/Keys, patch/specs/Patch and semantics/specs/Enabling.
+-- Rests on Keys, arcs/specs/Keys, gathering/specs/Gather, patch/specs/Patch and semantics/specs/Enabling.
 use mathlib.Core.Path.{_≡_}
 use mathlib.Core.Bool.{Bool, false, cond, not}
 use mathlib.Core.List.{List, _++_, map}
@@ -14,7 +14,8 @@ use Rattle.semantics.specs.Marking.{Entry, key, Counts, countsOf, entryWords}
 use Rattle.semantics.specs.Enabling.{effect}
 use Rattle.net.specs.Places.{placesAt, PlacesFit}
 use Rattle.marking.specs.Marked.{markingRead, Begins, positionOf}
-use Rattle.arcs.specs.Keys.{keyPlace, keyColour, keyFlows, KeyFits, sumOf}
+use Rattle.arcs.specs.Keys.{keyPlace, keyColour, keyFlows, KeyFits}
+use Rattle.gathering.specs.Gather.{sumOf}
 use Rattle.patch.specs.Patch.{Change}
 use Rattle.changes.specs.declared.change.NewCount.{NewCount}
 use Rattle.changes.specs.declared.change.Changed.{Changed}

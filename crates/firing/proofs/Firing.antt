@@ -30,11 +30,12 @@ use Rattle.net.specs.Standing.{HasConjunct, HasArc}
 use Rattle.net.proofs.Standing.{inputs-stand, outputs-stand, conjuncts-stand}
 use Rattle.marking.specs.Marked.{markingRead, Begins}
 use Rattle.marking.proofs.Counted.{marking-counts}
-use Rattle.arcs.specs.declared.gather.Gathered.{Gathered}
 use Rattle.arcs.specs.Flow.{flowsAt}
 use Rattle.guards.specs.Guard.{guardAt}
-use Rattle.arcs.specs.Keys.{keyPlace, keyColour, keyFlows, fitsAt, moving, gatheredBy, IsGathered}
-use Rattle.arcs.proofs.Keyed.{total-moving, flow-keyed}
+use Rattle.arcs.specs.Keys.{keyPlace, keyColour, keyFlows, fitsAt}
+use Rattle.gathering.specs.declared.gather.Gathered.{Gathered}
+use Rattle.gathering.specs.Gather.{moving, gatheredBy, IsGathered}
+use Rattle.gathering.proofs.Keyed.{total-moving, flow-keyed}
 use Rattle.occurrence.specs.Answers.{IsEnabledAt, IsTaken}
 use Rattle.occurrence.proofs.Covering.{enabled-unguarded, enabled-unmoved, keys-few, keys-paired, keys-fit}
 use Rattle.occurrence.proofs.Reading.{inputs-told, outputs-told, enabled-told}

@@ -1,5 +1,5 @@
 -- What firing starts from, and what its answers say.
--- Rests on semantics/specs/Calls, marking/specs/Marked, net/specs/Places, arcs/specs/Keys, occurrence/specs/Answers and changes/specs/Changes.
+-- Rests on semantics/specs/Calls, marking/specs/Marked, net/specs/Places, gathering/specs/Gather, occurrence/specs/Answers and changes/specs/Changes.
 use mathlib.Core.Path.{_≡_}
 use Prim.Native.Nat.{ℕ, _<_}
 use mathlib.Core.Bool.{true}
@@ -18,7 +18,7 @@ use Rattle.evaluation.specs.Evaluate.{lent}
 use Rattle.net.specs.Skim.{outline}
 use Rattle.net.specs.Places.{placesAt}
 use Rattle.marking.specs.Marked.{markingRead, Begins}
-use Rattle.arcs.specs.Keys.{IsGathered}
+use Rattle.gathering.specs.Gather.{IsGathered}
 use Rattle.occurrence.specs.Answers.{IsEnabledAt}
 use Rattle.steps.specs.Steps.{FiredTo}
 

@@ -1,6 +1,6 @@
 // The call fire: the marking after a step, written to a second buffer, or the refusal; a refusal leaves the buffer as it was.
-use arcs::gather::gather;
 use expression::read::Skipped;
+use gathering::gather::gather;
 use marking::binding::read_binding;
 use occurrence::enabled::taken;
 use semantics::Fired;

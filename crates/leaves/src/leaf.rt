@@ -10,7 +10,7 @@ ghost use lib.ListN.{length};
 ghost use Rattle.semantics.specs.Lists.{Every};
 ghost use Rattle.net.specs.Places.{PlacesFit};
 ghost use Rattle.net.specs.Standing.{HasConjunct, HasArc};
-ghost use Rattle.arcs.specs.Keys.{Known, Keeps};
+ghost use Rattle.gathering.specs.Gather.{Known, Keeps};
 ghost use Rattle.word.specs.Fields.{IsValue};
 ghost use Rattle.leaves.specs.Leaf.{Held, IsLeaf};
 

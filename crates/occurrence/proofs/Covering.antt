@@ -24,12 +24,13 @@ use Rattle.counts.specs.Counts.{IsSpot}
 use Rattle.marking.specs.Marked.{markingRead, Begins}
 use Rattle.marking.proofs.Counted.{marking-counts}
 use Rattle.colours.proofs.Codes.{coloured-length}
-use Rattle.arcs.specs.declared.gather.Gathered.{Gathered}
 use Rattle.arcs.specs.Flow.{flowsAt}
 use Rattle.guards.specs.Guard.{guardAt}
-use Rattle.arcs.specs.Keys.{keyPlace, keyCode, widthOf, keyColour, keyFlow, keyFlows, KeyFits, IsGathered, sumOf}
-use Rattle.arcs.proofs.Gathering.{known-nothing, keeps-all}
-use Rattle.arcs.proofs.Keyed.{Ranged, keys-total, covers-gathered}
+use Rattle.arcs.specs.Keys.{keyPlace, keyCode, widthOf, keyColour, keyFlow, keyFlows, KeyFits}
+use Rattle.gathering.specs.declared.gather.Gathered.{Gathered}
+use Rattle.gathering.specs.Gather.{IsGathered, sumOf}
+use Rattle.gathering.proofs.Gathering.{known-nothing, keeps-all}
+use Rattle.gathering.proofs.Keyed.{Ranged, keys-total, covers-gathered}
 use Rattle.occurrence.specs.Answers.{isRepeated, IsCovered, IsEnabledAt, IsTaken}
 
 -- ── Sums ──

@@ -1,5 +1,5 @@
 -- What the answers of src/ say: by the counts of a marking that was read, with the beginnings of its places.
--- Rests on arcs/specs/{Flow, Keys} and marking/specs/Marked.
+-- Rests on arcs/specs/{Flow, Keys}, gathering/specs/Gather and marking/specs/Marked.
 use mathlib.Core.Path.{_≡_}
 use mathlib.Core.Bool.{Bool, true, _&&_}
 use mathlib.Core.List.{List}
@@ -14,8 +14,9 @@ use Rattle.net.specs.Places.{placesAt}
 use Rattle.marking.specs.Marked.{markingRead, Begins}
 use Rattle.arcs.specs.Flow.{flowsAt}
 use Rattle.guards.specs.Guard.{guardAt}
-use Rattle.arcs.specs.declared.gather.Gathered.{Gathered}
-use Rattle.arcs.specs.Keys.{keyFlows, IsGathered}
+use Rattle.arcs.specs.Keys.{keyFlows}
+use Rattle.gathering.specs.declared.gather.Gathered.{Gathered}
+use Rattle.gathering.specs.Gather.{IsGathered}
 
 -- the key at an index is the one before it again
 abbrev pub isRepeated : List ℕ → ℕ → Bool

@@ -8,7 +8,8 @@ ghost use lib.ListN.{length};
 ghost use Rattle.semantics.specs.Lists.{Every};
 ghost use Rattle.net.specs.Places.{PlacesFit};
 ghost use Rattle.counts.specs.Counts.{IsSpot};
-ghost use Rattle.arcs.specs.Keys.{keyPlace, widthOf, keyColour, KeyFits, sumOf};
+ghost use Rattle.arcs.specs.Keys.{keyPlace, widthOf, keyColour, KeyFits};
+ghost use Rattle.gathering.specs.Gather.{sumOf};
 ghost use Rattle.occurrence.specs.Answers.{isRepeated, IsCovered};
 
 // The components of the place of a key.

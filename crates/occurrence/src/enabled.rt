@@ -1,8 +1,8 @@
 // Whether a transition is enabled under lent binding words, in a marking with the beginnings of its places.
 use crate::cover::covers;
-use arcs::gather::Gathered;
-use arcs::gather::gather;
-use arcs::gather::gather_behind;
+use gathering::gather::Gathered;
+use gathering::gather::gather;
+use gathering::gather::gather_behind;
 use guards::guard::guard_holds;
 ghost use mathlib.Core.Path.{_≡_};
 ghost use Prim.Native.Nat.{_≤_};
@@ -10,7 +10,7 @@ ghost use lib.ListN.{length};
 ghost use Rattle.semantics.specs.Lists.{Every};
 ghost use Rattle.net.specs.Places.{PlacesFit};
 ghost use Rattle.net.specs.Standing.{HasConjunct, HasArc};
-ghost use Rattle.arcs.specs.Keys.{Known, Keeps};
+ghost use Rattle.gathering.specs.Gather.{Known, Keeps};
 ghost use Rattle.occurrence.specs.Answers.{IsTaken, IsEnabledAt};
 
 // What the input arcs that stand at some positions take, as keys and amounts, where the conjuncts that stand at others hold and the marking covers it: none exactly where

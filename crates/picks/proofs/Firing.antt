@@ -24,6 +24,7 @@ use Rattle.picks.specs.declared.pick.Picked.{Picked}
 use Rattle.spares.specs.Spare.{Unspared}
 use Rattle.arrivals.specs.World.{World}
 use Rattle.search.specs.Scene.{sceneOf}
+use Rattle.rests.proofs.Resting.{part-is}
 use Rattle.picks.specs.Pick.{Lists, Leaves, Fires, row, FiresRow, IsFiredAt}
 
 -- what fire answers and leaves, by what it comes to
@@ -96,10 +97,6 @@ module _ {ws ps is os begins : List ℕ} (buffer : List ℕ) (size : ℕ) (spare
 
         front : take next b ≡ take next after
         front = ap (take next) (g ∙ ap (written buffer 0) cut) ∙ take-at (take next after) (drop (0 + length (take next after)) buffer) next (length-take-le next after inside)
-
--- a part from a number to as many more
-pub part-is : (from n : ℕ) (l : List ℕ) → take (from + n - from) (drop from l) ≡ take n (drop from l)
-part-is from n l = let d : from + n - from ≡ n = omega arith in ap (λ (k : ℕ). take k (drop from l)) d
 
 -- the parts of a transition, and the part of a menu from a row's first word to its last
 module _ {ws ps : List ℕ} {head : ℕ} {own begins buffer : List ℕ} {size : ℕ} {menu : List ℕ} {i : ℕ} (Q : FiresRow ws ps head own begins buffer size menu i) where

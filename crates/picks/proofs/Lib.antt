@@ -1,4 +1,2 @@
 pub mod Firing
-pub mod Chosen
-pub mod Resting
 pub mod Picking

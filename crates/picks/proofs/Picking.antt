@@ -46,11 +46,11 @@ use Rattle.arrivals.specs.World.{World}
 use Rattle.search.specs.Scene.{netOf, countsIn, sceneOf}
 use Rattle.search.specs.Search.{menuEnd}
 use Rattle.menus.specs.Menu.{IsListed}
+use Rattle.rests.specs.Rests.{Rest}
+use Rattle.rests.proofs.Resting.{part-is}
+use Rattle.rests.proofs.Chosen as known
 use Rattle.picks.specs.declared.pick.Picked.{Picked}
 use Rattle.picks.specs.Pick.{Leaves, row, FiresRow, Lists, IsFiredAt, Pickable, IsPicked}
-use Rattle.picks.specs.Rests.{Rest}
-use Rattle.picks.proofs.Firing.{part-is}
-use Rattle.picks.proofs.Chosen as known
 
 -- ── What was listed ──
 

@@ -1,5 +1,5 @@
 -- What a pick leaves: the marking after it at the front of the buffer, or the marking before it and the refusal.
--- Rests on semantics/specs/Run, firing/specs/Fire, starts/specs/Known, net/specs/Parted and Rests.
+-- Rests on semantics/specs/Run, firing/specs/Fire, starts/specs/Known, net/specs/Parted and rests/specs/Rests.
 use mathlib.Core.Path.{_≡_}
 use mathlib.Core.Bool.{true}
 use mathlib.Core.List.{List}
@@ -20,9 +20,9 @@ use Rattle.steps.specs.Steps.{BeginsThen}
 use Rattle.firing.specs.Fire.{FireableAt}
 use Rattle.arrivals.specs.World.{World}
 use Rattle.search.specs.Scene.{netOf, countsIn, sceneOf}
-use Rattle.picks.specs.declared.pick.Picked.{Picked}
 use Rattle.starts.specs.Known.{NetKnown}
-use Rattle.picks.specs.Rests.{Rest, RestsKept}
+use Rattle.rests.specs.Rests.{Rest, RestsKept}
+use Rattle.picks.specs.declared.pick.Picked.{Picked}
 
 -- the marking after a firing at the front of the buffer, or the one before it and the refusal
 abbrev pub Leaves : Net → List ℕ → ℕ → Picked → List ℕ → Firing → Type 0

@@ -2,5 +2,3 @@
 
 // One pick.
 pub mod pick;
-// The arcs that the leaves of each transition look up.
-pub mod rests;

@@ -31,7 +31,7 @@ use Rattle.marking.specs.Marked.{markingRead, Begins, BeginsFor, Accepted, Inde
 use Rattle.steps.specs.Steps.{BeginsThen}
 use Rattle.search.specs.Scene.{netOf, countsIn}
 use Rattle.picks.specs.declared.pick.Picked.{Picked}
-use Rattle.picks.specs.Rests.{RestsKept}
+use Rattle.rests.specs.Rests.{RestsKept}
 use Rattle.picks.specs.Pick.{Leaves, Pickable, IsPicked}
 use Rattle.run.specs.Run.{Runnable, HasRun}
 

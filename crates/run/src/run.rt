@@ -3,7 +3,7 @@ use expression::read::Skipped;
 use marking::begins::index_marking;
 use menus::menu::clear;
 use picks::pick::pick_once;
-use picks::rests::keep_rests;
+use rests::keep::keep_rests;
 use semantics::Outcome;
 use starts::begin::begin;
 use word::size::at_most;

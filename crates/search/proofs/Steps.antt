@@ -10,7 +10,7 @@ use Rattle.semantics.specs.Net.{Element}
 use Rattle.semantics.specs.Enabling.{isEnabled}
 use Rattle.semantics.specs.Tries.{Partial, bindingOf, tries, countTries, gather, triesFrom, leavesFrom}
 use Rattle.semantics.specs.Calls.{Situation}
-use Rattle.arcs.proofs.Gathering.{select-append}
+use Rattle.gathering.proofs.Gathering.{select-append}
 use Rattle.search.specs.Search.{costFrom, rowsFrom}
 use Rattle.search.proofs.Trying.{rowsOver}
 

@@ -25,8 +25,8 @@ use Rattle.semantics.proofs.Leaves.{Sound, sound-fits, sound-next, sound-leaf}
 use Rattle.semantics.proofs.Menu.{binding-full}
 use Rattle.net.specs.Places.{PlacesFit}
 use Rattle.evaluation.specs.Evaluate.{lent}
-use Rattle.arcs.specs.Keys.{Known}
-use Rattle.arcs.proofs.Gathering.{known-kept, known-stays}
+use Rattle.gathering.specs.Gather.{Known}
+use Rattle.gathering.proofs.Gathering.{known-kept, known-stays}
 use Rattle.occurrence.specs.Answers.{IsEnabledAt}
 use Rattle.elements.specs.declared.element.Element.{Element as CodeElement}
 use Rattle.elements.specs.Bound.{sorted}

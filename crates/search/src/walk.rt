@@ -1,9 +1,9 @@
 // The search: from a partial binding over the rest of the plan, each try counted against the budget.
-use arcs::gather::gather_behind;
 use arrivals::step::arrive;
 use arrivals::step::try_at;
 use elements::element::Element;
 use elements::element::element_of;
+use gathering::gather::gather_behind;
 use leaves::leaf::leaf;
 use leaves::progress::Progress;
 use tries::partial::restore;

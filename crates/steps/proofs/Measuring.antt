@@ -12,8 +12,9 @@ use Rattle.semantics.specs.Lists.{Every, every, select}
 use Rattle.semantics.specs.Marking.{Entry, countsOf, entryWords}
 use Rattle.semantics.proofs.Tests.{not-both, Every-at, Every-of, selected}
 use Rattle.semantics.proofs.Members.{every-both}
-use Rattle.arcs.specs.Keys.{keyPlace, keyColour, KeyFits, sumOf}
-use Rattle.arcs.proofs.Keyed.{keys-total}
+use Rattle.arcs.specs.Keys.{keyPlace, keyColour, KeyFits}
+use Rattle.gathering.specs.Gather.{sumOf}
+use Rattle.gathering.proofs.Keyed.{keys-total}
 use Rattle.patch.specs.Patch.{Change, oldLength, newLength}
 use Rattle.changes.specs.declared.change.Changed.{Changed}
 use Rattle.changes.specs.Keys.{sortKeys, keysFrom, noKey, firstOf}

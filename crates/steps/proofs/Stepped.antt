@@ -21,8 +21,9 @@ use Rattle.semantics.proofs.Markings.{total-some}
 use Rattle.net.proofs.Placed.{places-length}
 use Rattle.marking.specs.Marked.{markingRead, beginOf, BeginsFor}
 use Rattle.marking.proofs.Counted.{marking-counts}
-use Rattle.arcs.specs.Keys.{keyPlace, keyColour, keyFlows, KeyFits, sumOf}
-use Rattle.arcs.proofs.Keyed.{keys-before, keys-total, flow-keyed}
+use Rattle.arcs.specs.Keys.{keyPlace, keyColour, keyFlows, KeyFits}
+use Rattle.gathering.specs.Gather.{sumOf}
+use Rattle.gathering.proofs.Keyed.{keys-before, keys-total, flow-keyed}
 use Rattle.patch.specs.Patch.{Change, changeKey, patched, oldBelow, newBelow, Told, Untouched, Changing, InOrder}
 use Rattle.patch.proofs.Patched.{begins-low, patched-words, patched-begins, patched-enough, patched-ordered, patched-size}
 use Rattle.steps.specs.declared.step.Listed.{Listed}

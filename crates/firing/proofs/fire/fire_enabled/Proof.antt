@@ -1,6 +1,6 @@
 -- `firing::fire::fire_enabled` meets its contract: an enabled binding takes something from each input arc, so as `fire_taken`.
 use mathlib.Core.Path.{refl, sym}
-use Rattle.arcs.proofs.Gathering.{known-nothing}
+use Rattle.gathering.proofs.Gathering.{known-nothing}
 use Rattle.firing.proofs.Firing.{fireable-inputs, enabled-gathered}
 use borrow.Author.Needs.{needs}
 use Rattle.firing.proofs.fire.fire_enabled.Statement.{statement}

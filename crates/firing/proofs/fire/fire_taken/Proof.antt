@@ -1,7 +1,7 @@
 -- `firing::fire::fire_taken` meets its contract: each return is a rule of `Firing`.
 use mathlib.Core.Path.{refl}
 use native.Mathlib.Omega.{arith}
-use Rattle.arcs.proofs.Gathering.{known-nothing}
+use Rattle.gathering.proofs.Gathering.{known-nothing}
 use Rattle.occurrence.proofs.Covering.{keys-front, amounts-front}
 use Rattle.firing.proofs.Firing.{fireable-outputs, gathered-moves, fired-14, fired-stepping, fired-step}
 use borrow.Author.Needs.{needs}

@@ -1,6 +1,6 @@
 -- `leaves::leaf::leaf` meets its contract: each return is a rule of `Leafing`.
 use borrow.Author.Needs.{needs}
-use Rattle.arcs.proofs.Gathering.{keeps-all}
+use Rattle.gathering.proofs.Gathering.{keeps-all}
 use Rattle.leaves.proofs.Leafing.{leaf-over, leaf-disabled, leaf-added}
 use Rattle.leaves.proofs.leaf.leaf.Statement.{statement}
 use Rattle.leaves.proofs.leaf.leaf.Tie as tie

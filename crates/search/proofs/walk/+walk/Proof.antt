@@ -14,8 +14,8 @@ use Rattle.semantics.specs.Tries.{tries}
 use Rattle.elements.specs.Bound.{sorted}
 use Rattle.rows.specs.Rows.{listingOf}
 use Rattle.tries.specs.Partial.{partialOf}
-use Rattle.arcs.specs.Keys.{Known}
-use Rattle.arcs.proofs.Gathering.{known-nothing, known-kept}
+use Rattle.gathering.specs.Gather.{Known}
+use Rattle.gathering.proofs.Gathering.{known-nothing, known-kept}
 use Rattle.search.specs.Scene.{sceneOf}
 use Rattle.search.specs.Search.{costFrom, rowsFrom}
 use Rattle.search.proofs.Trying.{Trying, trying-start, ended-all, ended-spent, trying-skip, trying-same, ended-stop, trying-turn}
@@ -28,7 +28,7 @@ use Rattle.leaves.proofs.leaf.leaf.Reads as leaf-reads
 use Rattle.search.proofs.walk.element_at.Reads as element-at-reads
 use Rattle.tries.proofs.partial.restore.Reads as restore-reads
 use Rattle.tries.proofs.partial.save.Reads as save-reads
-use Rattle.arcs.proofs.gather.gather_behind.Reads as gather-behind-reads
+use Rattle.gathering.proofs.gather.gather_behind.Reads as gather-behind-reads
 use Rattle.arrivals.proofs.step.arrive.Reads as arrive-reads
 use Rattle.arrivals.proofs.step.try_at.Reads as try-at-reads
 use Rattle.search.proofs.walk.+walk.{statement}

@@ -1,13 +1,13 @@
 // What several arcs move: keys and amounts in lent lists.
-use crate::flow::Moved;
-use crate::flow::move_at;
+use arcs::flow::Moved;
+use arcs::flow::move_at;
 ghost use mathlib.Core.Path.{_≡_};
 ghost use Prim.Native.Nat.{_≤_};
 ghost use lib.ListN.{length};
 ghost use Rattle.semantics.specs.Lists.{Every};
 ghost use Rattle.net.specs.Places.{PlacesFit};
 ghost use Rattle.net.specs.Standing.{HasArc};
-ghost use Rattle.arcs.specs.Keys.{Known, IsGathered, Keeps};
+ghost use Rattle.gathering.specs.Gather.{Known, IsGathered, Keeps};
 
 // How many arcs were gone through and how many keys they left; not all of them where the next one has no flow, or moves a colour that its place cannot have.
 pub struct Gathered {

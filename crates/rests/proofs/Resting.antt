@@ -11,9 +11,12 @@ use Rattle.semantics.specs.Net.{Net}
 use Rattle.net.specs.Parted.{inputsIn, planIn}
 use Rattle.spares.specs.Spare.{Within, Unspared, IsRest}
 use Rattle.starts.specs.Known.{NetKnown}
-use Rattle.picks.specs.Rests.{Restable, Rest, RestsKept}
-use Rattle.picks.proofs.Firing.{part-is}
-use Rattle.picks.proofs.Chosen.{known-number, few, restable}
+use Rattle.rests.specs.Rests.{Restable, Rest, RestsKept}
+use Rattle.rests.proofs.Chosen.{known-number, few, restable}
+
+-- a part from a number to as many more
+pub part-is : (from n : ℕ) (l : List ℕ) → take (from + n - from) (drop from l) ≡ take n (drop from l)
+part-is from n l = let d : from + n - from ≡ n = omega arith in ap (λ (k : ℕ). take k (drop from l)) d
 
 -- ── One transition ──
 

@@ -26,11 +26,12 @@ use Rattle.evaluation.specs.Evaluate.{lent}
 use Rattle.net.specs.Places.{placesAt}
 use Rattle.net.specs.Standing.{HasArc}
 use Rattle.net.proofs.Loops.{take-set}
 use Rattle.arcs.specs.declared.flow.Moved.{Moved}
 use Rattle.arcs.specs.declared.flow.Moved.the-variants.{Tokens, Idle, Outside, Nothing}
 use Rattle.arcs.specs.Flow.{arcFlow, flowAt, flowsAt}
-use Rattle.arcs.specs.Keys.{keyFlow, keyFlows, KeyFits, fitsAt, Says, IsMoved, moving, gatheredBy, Known, IsGathered, Keeps}
+use Rattle.arcs.specs.Keys.{keyFlow, keyFlows, KeyFits, fitsAt, Says, IsMoved}
 use Rattle.arcs.proofs.Colours.{front, front-nil}
+use Rattle.gathering.specs.Gather.{moving, gatheredBy, Known, IsGathered, Keeps}
 
 -- ── One arc more ──
 

@@ -1,11 +1,11 @@
--- `picks::rests::keep_rest` meets its contract: what is left stands at the front of the nine numbers, and how many at their end.
+-- `rests::keep::keep_rest` meets its contract: what is left stands at the front of the nine numbers, and how many at their end.
 use mathlib.Core.Path.{sym}
 use native.Mathlib.Omega.{arith}
 use borrow.Author.Needs.{needs}
 use lib.Seq.{length-take-le}
-use Rattle.picks.proofs.Resting.{rest-within, rest-few, rest-made}
-use Rattle.picks.proofs.rests.keep_rest.Statement.{statement}
-use Rattle.picks.proofs.rests.keep_rest.Tie as tie
+use Rattle.rests.proofs.Resting.{rest-within, rest-few, rest-made}
+use Rattle.rests.proofs.keep.keep_rest.Statement.{statement}
+use Rattle.rests.proofs.keep.keep_rest.Tie as tie
 
 inputs-slice : tie.Need-slice-aggregate-leave-out
 inputs-slice c = let R = c .before .before .before .before .before .pre .0 in let f = R .few .inputs in let l = R .long in sym (length-take-le _ _ (omega arith))

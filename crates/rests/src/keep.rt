@@ -5,7 +5,7 @@ ghost use lib.ListN.{length};
 ghost use Rattle.semantics.specs.Plan.{acceptNet};
 ghost use Rattle.search.specs.Scene.{netOf};
 ghost use Rattle.starts.specs.Known.{NetKnown};
-ghost use Rattle.picks.specs.Rests.{Restable, Rest, RestsKept};
+ghost use Rattle.rests.specs.Rests.{Restable, Rest, RestsKept};
 
 // Writes the nine numbers of one transition: up to eight positions, and how many of them count. Its parts stand at these 32 positions, by its word.
 fn keep_rest(net: &[u32], places: &[usize], head: u32, own: &[usize], row: &mut [usize])

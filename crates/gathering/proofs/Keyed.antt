@@ -19,7 +19,8 @@ use Rattle.semantics.proofs.Tests.{either, not-both, same-test, every-fails}
 use Rattle.semantics.proofs.Enabling.{amount-within, covers-all, all-covers}
 use Rattle.net.specs.Places.{placesAt}
 use Rattle.colours.proofs.Codes.{code-same, code-before}
-use Rattle.arcs.specs.Keys.{keyPlace, keyCode, widthOf, keyColour, keyFlow, keyFlows, KeyFits, fitsAt, moving, gatheredBy, sumOf}
+use Rattle.arcs.specs.Keys.{keyPlace, keyCode, widthOf, keyColour, keyFlow, keyFlows, KeyFits, fitsAt}
+use Rattle.gathering.specs.Gather.{moving, gatheredBy, sumOf}
 
 -- ── Two keys ──
 

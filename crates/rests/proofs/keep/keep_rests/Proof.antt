@@ -1,14 +1,14 @@
--- `picks::rests::keep_rests` meets its contract: the loop keeps that the numbers of the transitions so far stand in the table.
+-- `rests::keep::keep_rests` meets its contract: the loop keeps that the numbers of the transitions so far stand in the table.
 use mathlib.Core.Path.{sym, _∙_}
 use Prim.Native.Nat.{_-_}
 use native.Mathlib.Omega.{arith}
 use borrow.Author.Needs.{needs}
 use lib.ListN.{length}
-use Rattle.picks.specs.Rests.{RestsKept}
-use Rattle.picks.proofs.Chosen.{known-number, few, inside, room}
-use Rattle.picks.proofs.Resting.{rests-none, rests-next, rests-all, rests-more}
-use Rattle.picks.proofs.rests.keep_rests.Statement.{statement}
-use Rattle.picks.proofs.rests.keep_rests.Tie as tie
+use Rattle.rests.specs.Rests.{RestsKept}
+use Rattle.rests.proofs.Chosen.{known-number, few, inside, room}
+use Rattle.rests.proofs.Resting.{rests-none, rests-next, rests-all, rests-more}
+use Rattle.rests.proofs.keep.keep_rests.Statement.{statement}
+use Rattle.rests.proofs.keep.keep_rests.Tie as tie
 
 abbrev Inv-loop : tie.InvT-loop
 Inv-loop net places transitions parts rests₀ t₀ rests t = RestsKept net places transitions parts t rests

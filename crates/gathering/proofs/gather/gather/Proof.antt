@@ -1,10 +1,10 @@
--- `arcs::gather::gather` meets its contract: the loop of `Gathering`, a rule for each answer of an arc.
+-- `gathering::gather::gather` meets its contract: the loop of `Gathering`, a rule for each answer of an arc.
 use Prim.Native.Nat.{_-_}
 use lib.ListN.{length}
 use native.Mathlib.Omega.{arith}
-use Rattle.arcs.proofs.Gathering.{Gathering, gathering}
-use Rattle.arcs.proofs.gather.gather.Statement.{statement}
-use Rattle.arcs.proofs.gather.gather.Tie as tie
+use Rattle.gathering.proofs.Gathering.{Gathering, gathering}
+use Rattle.gathering.proofs.gather.gather.Statement.{statement}
+use Rattle.gathering.proofs.gather.gather.Tie as tie
 
 abbrev Inv-loop : tie.InvT-loop
 Inv-loop net places binding ats start kept keys₀ amounts₀ n₀ i₀ keys amounts n i = Gathering net places binding ats kept keys₀ amounts₀ i n keys amounts

@@ -21,7 +21,7 @@ use Rattle.net.proofs.Parted.{head-inside}
 use Rattle.spares.specs.Spare.{Inside}
 use Rattle.search.proofs.Worlds.{element-read}
 use Rattle.starts.specs.Known.{NetKnown}
-use Rattle.picks.specs.Rests.{Restable}
+use Rattle.rests.specs.Rests.{Restable}
 
 plan-inside : (ws : List ℕ) (es : List Element) → Every (At (readElement ws) (λ (e : Element). e .position)) es → (i : ℕ) → i < length es → getD (map (λ (e : Element). e .position) es) i 0 < length ws
 plan-inside ws [] h i l = absurd (omega arith)
