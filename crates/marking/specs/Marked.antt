@@ -1,7 +1,7 @@
 -- What the code tells of a marking: its entries where they stand, and where the entries of a place begin.
 -- Rests on semantics/specs/Marking and colours/specs/Values.
 use mathlib.Core.Path.{_≡_}
-use Prim.Native.Nat.{ℕ, _+_, _*_, _/_, _%_, _≤_, _<_}
+use Prim.Native.Nat.{ℕ, _+_, _≤_, _<_}
 use mathlib.Core.Bool.{Bool, true, cond}
 use mathlib.Core.List.{List, [], _∷_}
 use lib.Dec.{eqb}
@@ -79,25 +79,3 @@ pub record Begins (places : List Place) (es : List Entry) (begins : List ℕ) : 
 -- the places' beginnings in the marking of counts
 pub record BeginsFor (net : Net) (m : Counts) (begins : List ℕ) : Type 0 where
   pub of : (es : List Entry) (next : ℕ) → markingRead (net .places) (markingWords net m) ≡ read es next → countsOf es ≡ m → Begins (net .places) es begins
-
--- words that are a marking
-pub record Accepted (places : List Place) (ws : List ℕ) : Type 0 where
-  pub entries : List Entry
-  pub end : ℕ
-  pub marked : markingRead places ws ≡ read entries end
-
--- the places' beginnings in the marking that the words are
-pub record Indexed (places : List Place) (ws begins : List ℕ) : Type 0 where
-  pub long : length begins ≡ 65
-  pub of : (es : List Entry) (next : ℕ) → markingRead places ws ≡ read es next → Begins places es begins
-
--- a position after some entries of one place, each of so many words, that stand one behind the other
-pub record Passed (ws : List ℕ) (from place size r : ℕ) : Type 0 where
-  pub entries : ℕ
-  pub there : r ≡ from + entries * size
-  pub same : (j : ℕ) → j < entries → (from + j * size < length ws) × (getD ws (from + j * size) 0 / 16384 % 256 ≡ place)
-
--- after all of them: none of this place follows
-pub record Passes (ws : List ℕ) (from place size r : ℕ) : Type 0 where
-  pub passed : Passed ws from place size r
-  pub stops : r < length ws → getD ws r 0 / 16384 % 256 ≡ place → ⊥

@@ -5,8 +5,6 @@
 pub mod entry;
 // A whole marking: where the entries of each place begin.
 pub mod index;
-// The same of a marking that is known to be accepted.
-pub mod begins;
 // Bindings.
 pub mod binding;
 // Picks.

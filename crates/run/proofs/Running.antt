@@ -27,7 +27,8 @@ use Rattle.semantics.proofs.Markings.{marking-words, marking-proper}
 use Rattle.semantics.proofs.Run.{Numbered, pick-numbered, further, run-append, run-refused, run-fired}
 use Rattle.semantics.proofs.Reach.{Marks, pick-marks}
 use Rattle.net.specs.Places.{placesAt}
-use Rattle.marking.specs.Marked.{markingRead, Begins, BeginsFor, Accepted, Indexed}
+use Rattle.marking.specs.Marked.{markingRead, Begins, BeginsFor}
+use Rattle.beginnings.specs.Indexed.{Accepted, Indexed}
 use Rattle.steps.specs.Steps.{BeginsThen}
 use Rattle.search.specs.Scene.{netOf, countsIn}
 use Rattle.picks.specs.declared.pick.Picked.{Picked}

@@ -1,6 +1,6 @@
 // The call run: picks fired one after the other, each from the marking that the one before it left.
+use beginnings::begins::index_marking;
 use expression::read::Skipped;
-use marking::begins::index_marking;
 use menus::menu::clear;
 use picks::pick::pick_once;
 use rests::keep::keep_rests;

@@ -1,5 +1,5 @@
--- The rules of indexing a marking that is known to be accepted: the loop of `Rising`, of which every turn that refuses is ruled out by what is known, so
--- that an entry's place and end can be told from its TOKEN word alone; and that loop taken place by place, since entries rise.
+-- The rules of indexing a marking that is known to be accepted: the loop of marking/proofs/Rising, of which every turn that refuses is ruled out by what is
+-- known, so that an entry's place and end can be told from its TOKEN word alone; and that loop taken place by place, since entries rise.
 use mathlib.Core.Path.{_≡_, refl, sym, ap, _∙_, subst}
 use Prim.Native.Nat.{ℕ, zero, suc, _+_, _*_, _-_, _/_, _%_, _≤_, _<_}
 use mathlib.Core.Logic.{_⊎_, inl, inr}
@@ -23,10 +23,11 @@ use Rattle.expression.specs.Skip.{forget}
 use Rattle.net.specs.Skim.{changed}
 use Rattle.net.specs.Places.{widthAt, placesAt, PlacesFit}
 use Rattle.net.proofs.Placed.{places-length, width-at}
-use Rattle.marking.specs.declared.entry.EntryRead.the-variants.{Entry as EntryAt, Refused as EntryRefused}
 use Rattle.semantics.proofs.ReadEntries.{tokenIn}
-use Rattle.marking.specs.Marked.{entryPlace, Begun, risesAfter, IsMarking, Accepted, Indexed, Passed, Passes}
+use Rattle.marking.specs.declared.entry.EntryRead.the-variants.{Entry as EntryAt, Refused as EntryRefused}
+use Rattle.marking.specs.Marked.{entryPlace, Begun, risesAfter, IsMarking}
 use Rattle.marking.proofs.Rising.{begun-none, begun-turn, entry-stands, SoFar, so-far-start, in-order, no-lesser, marking-ends, marking-refused, marking-unordered, marking-goes}
+use Rattle.beginnings.specs.Indexed.{Accepted, Indexed, Passed, Passes}
 
 -- the place of an entry, told from its TOKEN word
 entry-place : (ps : List Place) (ws : List ℕ) (at : ℕ) (e : Entry) (next : ℕ) → readEntry ps ws at ≡ read e next → e .place ≡ getD ws at 0 / 16384 % 256

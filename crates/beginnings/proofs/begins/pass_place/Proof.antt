@@ -1,12 +1,12 @@
--- `marking::begins::pass_place` meets its contract: each turn passes one entry of the place.
+-- `beginnings::begins::pass_place` meets its contract: each turn passes one entry of the place.
 use Prim.Native.Nat.{_-_}
 use lib.ListN.{length}
 use native.Mathlib.Omega.{arith}
 use borrow.Author.Needs.{needs}
-use Rattle.marking.specs.Marked.{Passed}
-use Rattle.marking.proofs.Known.{passed-start, passed-turn}
-use Rattle.marking.proofs.begins.pass_place.Statement.{statement}
-use Rattle.marking.proofs.begins.pass_place.Tie as tie
+use Rattle.beginnings.specs.Indexed.{Passed}
+use Rattle.beginnings.proofs.Known.{passed-start, passed-turn}
+use Rattle.beginnings.proofs.begins.pass_place.Statement.{statement}
+use Rattle.beginnings.proofs.begins.pass_place.Tie as tie
 
 abbrev Inv-loop : tie.InvT-loop
 Inv-loop words from place size at₀ at = Passed words from place size at

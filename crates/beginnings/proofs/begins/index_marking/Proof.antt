@@ -1,13 +1,13 @@
--- `marking::begins::index_marking` meets its contract: the turns of `Known`, place by place.
+-- `beginnings::begins::index_marking` meets its contract: the turns of `Known`, place by place.
 use Prim.Native.Nat.{_-_, _≤_}
 use lib.ListN.{length}
 use native.Mathlib.Omega.{arith}
 use borrow.Author.Needs.{needs}
 use Rattle.net.specs.Places.{placesAt}
 use Rattle.net.proofs.Placed.{fits-at, place-inside}
-use Rattle.marking.proofs.Known.{Ready, ready-start, ready-turn, ready-end}
-use Rattle.marking.proofs.begins.index_marking.Statement.{statement}
-use Rattle.marking.proofs.begins.index_marking.Tie as tie
+use Rattle.beginnings.proofs.Known.{Ready, ready-start, ready-turn, ready-end}
+use Rattle.beginnings.proofs.begins.index_marking.Statement.{statement}
+use Rattle.beginnings.proofs.begins.index_marking.Tie as tie
 
 abbrev Inv-loop : tie.InvT-loop
 Inv-loop net places words begins₀ p₀ at₀ begins p at = Ready (placesAt net places) words begins p at × (p ≤ length places)

@@ -1,13 +1,13 @@
 // Where the entries of each place begin in a marking that is known to be accepted: TOKEN words alone are looked at, and nothing is checked. The places are
 // gone over in turn, since the net tells how large the entries of each are: no entry waits for what the one before it says.
-// Rests on index: it is the table that read_marking tells.
-use crate::index::begin_all;
+// Rests on marking::index: it is the table that read_marking tells.
+use marking::index::begin_all;
 use word::fields::payload;
 ghost use mathlib.Core.Path.{_≡_};
 ghost use Prim.Native.Nat.{_≤_, _<_};
 ghost use lib.ListN.{length};
 ghost use Rattle.net.specs.Places.{placesAt, PlacesFit};
-ghost use Rattle.marking.specs.Marked.{Accepted, Indexed, Passes};
+ghost use Rattle.beginnings.specs.Indexed.{Accepted, Indexed, Passes};
 
 // Where the entries of one place end, from a position on, each of so many words: a TOKEN word only tells where to stop.
 fn pass_place(words: &[u32], from: usize, place: usize, size: usize) -> usize
