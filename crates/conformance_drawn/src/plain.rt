@@ -1,13 +1,33 @@
 // Firing on counts, one for each of the twelve colours of the nets of `draw`, as document 01 says it: colours of place 0 at 0 to 3, of place 1 at 4 to 9,
 // of place 2 at 10 and 11, so that marking words are the counts above 0 in turn.
-//
-// A flow, what an arc says under a binding, is five numbers: place, 1 if all its expressions have values and 0 if not, coefficient, components.
 use crate::draw::is_negative;
 use conformance_plain::build::put;
 use conformance_plain::reading::get;
 use conformance_plain::reading::wide;
 use std::num::wrapping_add_u32;
 use std::num::wrapping_sub_u32;
+
+// What an arc says under a binding: its place, whether all its expressions have values, coefficient, components.
+pub struct Flow {
+    pub place: u32,
+    pub some: bool,
+    pub coefficient: u32,
+    pub first: u32,
+    pub second: u32,
+}
+
+// What arcs move of each colour, those that their places do not have in the last cell, and whether each arc passes.
+pub struct Moved {
+    pub good: bool,
+    pub sums: [u32; 13],
+}
+
+pub fn nothing_moved() -> Moved {
+    Moved {
+        good: true,
+        sums: [0; 13],
+    }
+}
 
 // Where a colour's count stands; 12 for a colour that the place does not have.
 fn index_of(place: u32, a: u32, b: u32) -> usize {
@@ -38,42 +58,37 @@ fn index_of(place: u32, a: u32, b: u32) -> usize {
     12
 }
 
-// One flow added to the sums by colour; whether it has values, no negative coefficient, and a colour of its place where the coefficient is
-// positive. (An input of a colour that the place does not have is more than the 0 marked.)
-fn add_flow(sums: &mut [u32], flows: &[u32], at: usize) -> bool {
-    let coefficient = get(flows, at % 64 + 2);
-    if get(flows, at % 64 + 1) == 0 {
-        return false;
+// So many tokens more of the colour whose count stands at a position.
+fn with_tokens(m: Moved, i: usize, coefficient: u32) -> Moved {
+    let mut sums = m.sums;
+    if i < 13 {
+        sums[i] = wrapping_add_u32(sums[i], coefficient);
     }
-    if is_negative(coefficient) {
-        return false;
+    Moved {
+        good: m.good && i < 12,
+        sums: sums,
     }
-    if coefficient == 0 {
-        return true;
-    }
-    let i = index_of(
-        get(flows, at % 64),
-        get(flows, at % 64 + 3),
-        get(flows, at % 64 + 4),
-    );
-    let sum = wrapping_add_u32(get(sums, i), coefficient);
-    put(sums, i, sum);
-    i < 12
 }
 
-// All flows of a list added to the sums; whether each passes.
-pub fn add_flows(sums: &mut [u32], flows: &[u32], count: u32) -> bool {
-    let mut good = true;
-    let mut at = 0;
-    let mut left = count;
-    while 0 < left {
-        if !add_flow(sums, flows, at) {
-            good = false;
-        }
-        at = at % 32 + 5;
-        left -= 1;
+// An arc that does not pass.
+fn with_bad(m: Moved) -> Moved {
+    let sums = m.sums;
+    Moved {
+        good: false,
+        sums: sums,
     }
-    good
+}
+
+// One arc more, which passes where it has values, no negative coefficient, and a colour of its place where the coefficient is positive. (An input of a colour
+// that the place does not have is more than the 0 marked.)
+pub fn add_flow(m: Moved, f: Flow) -> Moved {
+    if !f.some || is_negative(f.coefficient) {
+        return with_bad(m);
+    }
+    if f.coefficient == 0 {
+        return m;
+    }
+    with_tokens(m, index_of(f.place, f.first, f.second), f.coefficient)
 }
 
 // Whether each sum is at most its count.

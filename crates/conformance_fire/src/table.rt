@@ -13,10 +13,10 @@ use conformance_plain::build::front;
 use conformance_plain::build::write;
 use conformance_plain::reading::wide;
 use conformance_plain::text::after;
-use conformance_plain::text::bar_after;
 use conformance_plain::text::byte_at;
 use conformance_plain::text::field;
 use conformance_plain::text::find;
+use conformance_plain::text::name;
 use conformance_plain::text::part;
 use conformance_report::report::case;
 use conformance_report::report::fire_case;
@@ -40,71 +40,47 @@ fn call(
     }
 }
 
-// One case from its fields.
-fn run(
-    form: u8,
-    name: &[u8],
-    head: &[u8],
-    net: &[u8],
-    marking: &[u8],
-    binding: &[u8],
-    numbers: &[u8],
-) {
-    let mut n = [0u32; 128];
-    let mut m = [0u32; 64];
-    let mut b = [0u32; 16];
+// One case with its words, from the name and the numbers of its line.
+fn run_words(form: u8, line: &[u8], net: &[u32], marking: &[u32], binding: &[u32]) {
     let mut a = [0u32; 2];
     a[1] = 24;
-    let first = write(&mut n, 0, head);
-    let n_end = write(&mut n, first, net);
-    let m_end = write(&mut m, 0, marking);
-    let b_end = write(&mut b, 0, binding);
-    write(&mut a, 0, numbers);
-    call(
-        form,
-        name,
-        front(&n, n_end),
-        a[0],
-        front(&m, m_end),
-        front(&b, b_end),
-        wide(a[1]),
-    );
+    write(&mut a, 0, field(line, 4));
+    call(form, name(line), net, a[0], marking, binding, wide(a[1]));
+}
+
+// One case with its net, from the other fields of its line.
+fn run_net(form: u8, line: &[u8], net: &[u32]) {
+    let mut marking = [0u32; 64];
+    let mut binding = [0u32; 16];
+    let m = write(&mut marking, 0, field(line, 2));
+    let b = write(&mut binding, 0, field(line, 3));
+    run_words(form, line, net, front(&marking, m), front(&binding, b));
+}
+
+// One case from its line, and the first words of its net.
+fn run(form: u8, head: &[u8], line: &[u8]) {
+    let mut net = [0u32; 128];
+    let first = write(&mut net, 0, head);
+    let n = write(&mut net, first, field(line, 1));
+    run_net(form, line, front(&net, n));
 }
 
 // One case by its form.
-fn run_form(
-    form: u8,
-    name: &[u8],
-    head: &[u8],
-    net: &[u8],
-    marking: &[u8],
-    binding: &[u8],
-    numbers: &[u8],
-) {
+fn run_form(form: u8, head: &[u8], line: &[u8]) {
     match form {
-        b'n' => long_net(name, net),
-        b'm' => long_marking(name, net, marking),
-        _ => run(form, name, head, net, marking, binding, numbers),
+        b'n' => long_net(name(line), field(line, 1)),
+        b'm' => long_marking(name(line), field(line, 1), field(line, 2)),
+        _ => run(form, head, line),
     }
 }
 
-// The case at a position, under the table that begins at another: its words behind the form are the first of the net.
-fn run_case(text: &[u8], table: usize, at: usize, end: usize) {
-    let net = bar_after(text, at, end);
-    let marking = bar_after(text, net, end);
-    let binding = bar_after(text, marking, end);
-    let numbers = bar_after(text, binding, end);
-    if 0 < net {
-        run_form(
-            byte_at(text, after(text, table, 2)),
-            part(text, at, net - 1),
-            part(text, after(text, table, 7), find(text, table, b'\n')),
-            field(text, net, marking),
-            field(text, marking, binding),
-            field(text, binding, numbers),
-            field(text, numbers, after(text, end, 1)),
-        );
-    }
+// A case under the table that begins at a position: its words behind the form are the first of the net.
+fn run_case(text: &[u8], table: usize, line: &[u8]) {
+    run_form(
+        byte_at(text, after(text, table, 2)),
+        part(text, after(text, table, 7), find(text, table, b'\n')),
+        line,
+    );
 }
 
 // The line at a position; answers where the table begins that the next line stands in.
@@ -116,7 +92,7 @@ fn run_line(text: &[u8], table: usize, at: usize, end: usize) -> usize {
         }
         b'*' => at,
         _ => {
-            run_case(text, table, at, end);
+            run_case(text, table, part(text, at, end));
             table
         }
     }

@@ -1,5 +1,4 @@
 // The call menu held against what is due, and the first difference in full.
-use conformance_lister::lister::Listing;
 use conformance_plain::build::front;
 use conformance_plain::reading::less;
 use conformance_plain::reading::plus;
@@ -16,6 +15,13 @@ use conformance_report::tally::differ;
 use menus::menu::menu;
 use semantics::Listed;
 use std::num::wrapping_sub_u32;
+
+// The numbers of a call.
+pub struct Call {
+    pub transition: u32,
+    pub budget: u32,
+    pub room: usize,
+}
 
 // The answer that is due: a refusal with its number and position, or with 0 for the number N, W and how many words of the list are written.
 pub struct Due {
@@ -36,24 +42,18 @@ pub fn due_refused(number: u32, position: usize) -> Due {
     }
 }
 
-// What is due of an accepted input.
-pub fn due_of(l: Listing, tries: u32, budget: u32, room: usize) -> Due {
-    if budget < tries {
+// What is due under a budget and a room, of an accepted input with this list and these tries.
+fn due_under(listed: Due, budget: u32, room: usize) -> Due {
+    if budget < listed.tries {
         return due_refused(10, 0);
     }
-    if 16383 < l.count {
+    if 16383 < listed.count {
         return due_refused(11, 0);
     }
-    if room < l.words {
+    if room < listed.words {
         return due_refused(11, 0);
     }
-    Due {
-        number: 0,
-        position: 0,
-        count: l.count,
-        tries: tries,
-        words: l.words,
-    }
+    listed
 }
 
 // The first words of a buffer, or all where there are fewer.
@@ -69,12 +69,26 @@ fn reach(room: usize) -> usize {
     plus(room, 8)
 }
 
+// What menu answers, and what it leaves in a buffer.
+fn ask(net: &[u32], marking: &[u32], c: Call, buffer: &mut [u32]) -> Listed {
+    fill(first(buffer, reach(c.room)));
+    menu(net, c.transition, marking, c.budget, first(buffer, c.room))
+}
+
 // Whether N, W and the words of a list are those that are due.
 fn same_list(d: Due, n: u32, w: u32, buffer: &[u32], list: &[u32]) -> bool {
     if d.number != 0 || n != d.count || w != d.tries {
         return false;
     }
     same_words(buffer, list, d.words)
+}
+
+// Whether N and W are those that are due, the words those of the list, and the words beyond as before.
+fn same_found(d: Due, n: u32, w: u32, room: usize, buffer: &[u32], list: &[u32]) -> bool {
+    if same_list(d, n, w, buffer, list) {
+        return stay(buffer, d.words, reach(room));
+    }
+    false
 }
 
 // Whether the buffer is zeros where the refusal is for the state, and stays for any other.
@@ -88,20 +102,18 @@ fn left_refused(number: u32, room: usize, buffer: &[u32]) -> bool {
     false
 }
 
+// Whether a refusal is the one that is due, and the buffer left as it has to be.
+fn same_refused(d: Due, number: u32, position: usize, room: usize, buffer: &[u32]) -> bool {
+    if number == 0 || number != d.number || position != d.position {
+        return false;
+    }
+    left_refused(number, room, buffer)
+}
+
 fn same(answer: Listed, d: Due, room: usize, buffer: &[u32], list: &[u32]) -> bool {
     match answer {
-        Listed::Found(n, w) => {
-            if same_list(d, n, w, buffer, list) {
-                return stay(buffer, d.words, reach(room));
-            }
-            false
-        }
-        Listed::Refused(m, p) => {
-            if m == 0 || m != d.number || p != d.position {
-                return false;
-            }
-            left_refused(m, room, buffer)
-        }
+        Listed::Found(n, w) => same_found(d, n, w, room, buffer, list),
+        Listed::Refused(m, p) => same_refused(d, m, p, room, buffer),
     }
 }
 
@@ -110,19 +122,26 @@ fn say_number(name: &[u8], n: u64) {
     io::print_decimal(1, n);
 }
 
+fn say_list(name: &[u8], words: &[u32]) {
+    io::write_all(1, name);
+    say_words(words);
+}
+
 fn say_found(n: u32, w: u32) {
     say_number(b"N ", n as u64);
     say_number(b" W ", w as u64);
 }
 
-fn say_input(net: &[u32], transition: u32, marking: &[u32], budget: u32, room: usize) {
-    io::write_all(1, b"DIFFERENCE\nnet");
-    say_words(net);
-    io::write_all(1, b"\nmarking");
-    say_words(marking);
-    say_number(b"\ntransition ", transition as u64);
-    say_number(b" budget ", budget as u64);
-    say_number(b" room ", room as u64);
+fn say_call(c: Call) {
+    say_number(b"\ntransition ", c.transition as u64);
+    say_number(b" budget ", c.budget as u64);
+    say_number(b" room ", c.room as u64);
+}
+
+fn say_input(net: &[u32], marking: &[u32], c: Call) {
+    say_list(b"DIFFERENCE\nnet", net);
+    say_list(b"\nmarking", marking);
+    say_call(c);
 }
 
 fn say_due(d: Due, list: &[u32]) {
@@ -132,8 +151,7 @@ fn say_due(d: Due, list: &[u32]) {
         return;
     }
     say_found(d.count, d.tries);
-    io::write_all(1, b", words");
-    say_words(front(list, d.words));
+    say_list(b", words", front(list, d.words));
 }
 
 fn say_listed(answer: Listed) {
@@ -146,35 +164,38 @@ fn say_listed(answer: Listed) {
 fn say_answer(answer: Listed, buffer: &[u32], room: usize) {
     io::write_all(1, b"\nmenu: ");
     say_listed(answer);
-    io::write_all(1, b", buffer");
-    say_words(front(buffer, reach(room)));
+    say_list(b", buffer", front(buffer, reach(room)));
     io::write_all(1, b"\n");
 }
 
-// One call of menu against the answer that is due.
-pub fn compare(
+// What menu answered and left against what is due; the first difference is printed in full.
+fn judge(
     t: Tally,
     net: &[u32],
-    transition: u32,
     marking: &[u32],
-    budget: u32,
-    room: usize,
+    c: Call,
     d: Due,
     list: &[u32],
-    buffer: &mut [u32],
+    answer: Listed,
+    buffer: &[u32],
 ) -> Tally {
-    fill(first(buffer, reach(room)));
-    let answer = menu(net, transition, marking, budget, first(buffer, room));
-    let counted = add(t, wide(d.number), 1);
-    if same(answer, d, room, buffer, list) {
-        return counted;
+    if same(answer, d, c.room, buffer, list) {
+        return t;
     }
     if t.different == 0 {
-        say_input(net, transition, marking, budget, room);
+        say_input(net, marking, c);
         say_due(d, list);
-        say_answer(answer, buffer, room);
+        say_answer(answer, buffer, c.room);
     }
-    differ(counted)
+    differ(t)
+}
+
+// One call of menu against the answer that is due.
+pub fn compare(t: Tally, net: &[u32], marking: &[u32], c: Call, d: Due, list: &[u32]) -> Tally {
+    let mut buffer = [0u32; 16400];
+    let answer = ask(net, marking, c, &mut buffer);
+    let counted = add(t, wide(d.number), 1);
+    judge(counted, net, marking, c, d, list, answer, &buffer)
 }
 
 // The budgets of six calls: plenty, just enough, none, one less than W, and both again for a room that is too short.
@@ -207,25 +228,26 @@ fn is_made(k: u32, tries: u32, words: usize) -> bool {
     }
 }
 
-// One of these calls on an accepted input against the list and the tries.
+// One of these calls on an accepted input, of which this is due where budget and room are plenty.
 fn compare_listed(
     t: Tally,
     net: &[u32],
     transition: u32,
     marking: &[u32],
-    l: Listing,
-    tries: u32,
+    listed: Due,
     list: &[u32],
-    buffer: &mut [u32],
     k: u32,
 ) -> Tally {
-    let budget = budget_of(k, tries);
-    let room = room_of(k, l.words);
-    if is_made(k, tries, l.words) {
-        let d = due_of(l, tries, budget, room);
-        return compare(t, net, transition, marking, budget, room, d, list, buffer);
+    if !is_made(k, listed.tries, listed.words) {
+        return t;
     }
-    t
+    let c = Call {
+        transition: transition,
+        budget: budget_of(k, listed.tries),
+        room: room_of(k, listed.words),
+    };
+    let d = due_under(listed, c.budget, c.room);
+    compare(t, net, marking, c, d, list)
 }
 
 // Calls on a net with its marking, by budget and room.
@@ -234,15 +256,13 @@ pub fn compare_all(
     net: &[u32],
     transition: u32,
     marking: &[u32],
-    l: Listing,
-    tries: u32,
+    listed: Due,
     list: &[u32],
-    buffer: &mut [u32],
 ) -> Tally {
     let mut told = t;
     let mut k: u32 = 0;
     while k < 6 {
-        told = compare_listed(told, net, transition, marking, l, tries, list, buffer, k);
+        told = compare_listed(told, net, transition, marking, listed, list, k);
         k += 1;
     }
     told

@@ -1,4 +1,6 @@
 // Drawn nets and markings, each with two plans: menu against the lister and the count of tries.
+use crate::compare::Call;
+use crate::compare::Due;
 use crate::compare::compare;
 use crate::compare::compare_all;
 use crate::compare::due_refused;
@@ -45,56 +47,73 @@ struct Spoilt {
     position: usize,
 }
 
-// The net a word short, no such transition, or a TOKEN with nothing after it.
+// The net a word short, no such transition, or a TOKEN with nothing after it, which is put at the end of the marking.
 fn spoil(net: &[u32], transition: u32, words: &mut [u32], length: usize, k: u32) -> Spoilt {
     let cut = less(net.len());
-    let mut z = Spoilt {
-        net: net.len(),
-        transition: get(net, 0) % 256,
-        marking: length,
-        number: 6,
-        position: 0,
-    };
     match k {
-        0 => {
-            z.net = cut;
-            z.transition = 7;
-            z.number = 2;
-            z.position = cut;
-            z
-        }
-        1 => z,
+        0 => Spoilt {
+            net: cut,
+            transition: 7,
+            marking: length,
+            number: 2,
+            position: cut,
+        },
+        1 => Spoilt {
+            net: net.len(),
+            transition: get(net, 0) % 256,
+            marking: length,
+            number: 6,
+            position: 0,
+        },
         _ => {
-            z.transition = transition;
-            z.marking = put(words, length, 0xB000_0001);
-            z.number = 7;
-            z.position = z.marking;
-            z
+            let end = put(words, length, 0xB000_0001);
+            Spoilt {
+                net: net.len(),
+                transition: transition,
+                marking: end,
+                number: 7,
+                position: end,
+            }
         }
     }
 }
 
-// A call with an input that is refused.
-fn compare_refused(
+// A call that is refused at a position for its input.
+fn compare_input(
+    t: Tally,
+    net: &[u32],
+    transition: u32,
+    marking: &[u32],
+    number: u32,
+    position: usize,
+) -> Tally {
+    let c = Call {
+        transition: transition,
+        budget: 9,
+        room: 4,
+    };
+    let d = due_refused(number, position);
+    compare(t, net, marking, c, d, front(net, 0))
+}
+
+// A call with a net, and a marking of so many words, one of which is spoilt.
+fn compare_spoilt(
     t: Tally,
     net: &[u32],
     transition: u32,
     words: &mut [u32],
     length: usize,
     k: u32,
-    buffer: &mut [u32],
 ) -> Tally {
     let z = spoil(net, transition, words, length, k);
-    compare(
+    let marking = front(words, z.marking);
+    compare_input(
         t,
         front(net, z.net),
         z.transition,
-        front(words, z.marking),
-        9,
-        4,
-        due_refused(z.number, z.position),
-        front(net, 0),
-        buffer,
+        marking,
+        z.number,
+        z.position,
     )
 }
 
@@ -142,6 +161,17 @@ fn draw_nets(net: &mut [u32], other: &mut [u32], seed: u64) -> Pair {
     }
 }
 
+// What is due of a list and its tries where budget and room are plenty.
+fn due_listed(l: Listing, tries: u32) -> Due {
+    Due {
+        number: 0,
+        position: 0,
+        count: l.count,
+        tries: tries,
+        words: l.words,
+    }
+}
+
 // A net with its marking; for a second plan, the list has to be that of the first.
 pub fn compare_net(
     t: Tally,
@@ -150,134 +180,83 @@ pub fn compare_net(
     marking: &[u32],
     list: &[u32],
     l: Listing,
-    buffer: &mut [u32],
-    queue: &mut [u32],
     second: bool,
 ) -> Tally {
-    let s = shape_of(net, transition);
-    let w = count_tries(net, s, marking, queue);
+    let mut queue = [0u32; 147465];
+    let w = count_tries(net, shape_of(net, transition), marking, &mut queue);
     if w.over {
         return add(t, OVER, 1);
     }
-    let kinds = count_kinds(t, net, s, marking, list, l, queue, w);
+    let kinds = count_kinds(t, net, transition, marking, list, l, &queue, w);
     let plans = add_if(kinds, TWO_PLANS, second);
-    compare_all(plans, net, transition, marking, l, w.tries, list, buffer)
+    let d = due_listed(l, w.tries);
+    compare_all(plans, net, transition, marking, d, list)
 }
 
 fn same_net(net: &[u32], other: &[u32]) -> bool {
     net.len() == other.len() && same_words(net, other, net.len())
 }
 
-fn compare_plans(
+// A net with its marking and list, and the other where it has another plan.
+fn compare_both(
     t: Tally,
     net: &[u32],
     other: &[u32],
     transition: u32,
     marking: &[u32],
-    list: &mut [u32],
-    buffer: &mut [u32],
-    queue: &mut [u32],
+    list: &[u32],
+    l: Listing,
 ) -> Tally {
-    let l = list_all(
-        net,
-        shape_of(net, transition),
-        counts_of(net, marking),
-        list,
-    );
-    let one = compare_net(t, net, transition, marking, list, l, buffer, queue, false);
+    let one = compare_net(t, net, transition, marking, list, l, false);
     if same_net(net, other) {
         return one;
     }
-    compare_net(
-        one,
-        other,
-        transition,
-        marking,
-        list,
-        l,
-        buffer,
-        queue,
-        true,
-    )
+    compare_net(one, other, transition, marking, list, l, true)
 }
 
-// Two nets that differ only in their plans, with a marking that is drawn into lent words.
-fn judge(
-    t: Tally,
-    p: Pair,
-    net: &[u32],
-    other: &[u32],
-    words: &mut [u32],
-    list: &mut [u32],
-    buffer: &mut [u32],
-    queue: &mut [u32],
-) -> Tally {
-    let m = marking(words, p.seed, net);
-    let drawn = front(words, m.at);
-    let plans = compare_plans(t, net, other, p.transition, drawn, list, buffer, queue);
+// Two nets that differ only in their plans, with a marking.
+fn compare_plans(t: Tally, net: &[u32], other: &[u32], transition: u32, marking: &[u32]) -> Tally {
+    let mut list = [0u32; 16400];
+    let counts = counts_of(net, marking);
+    let l = list_all(net, shape_of(net, transition), counts, &mut list);
+    compare_both(t, net, other, transition, marking, &list, l)
+}
+
+// The same with a marking that is drawn; then a net or a marking that is spoilt.
+fn judge(t: Tally, p: Pair, net: &[u32], other: &[u32]) -> Tally {
+    let mut words = [0u32; 512];
+    let m = marking(&mut words, p.seed, net);
+    let plans = compare_plans(t, net, other, p.transition, front(&words, m.at));
     let k = pick(next(m.seed), 3);
-    compare_refused(plans, net, p.transition, words, m.at, k, buffer)
+    compare_spoilt(plans, net, p.transition, &mut words, m.at, k)
 }
 
 // A call on a net whose first element names no variable.
-fn compare_unfit(
-    t: Tally,
-    net: &mut [u32],
-    length: usize,
-    transition: u32,
-    buffer: &mut [u32],
-) -> Tally {
+fn compare_unfit(t: Tally, net: &mut [u32], length: usize, transition: u32) -> Tally {
     let s = shape_of(net, transition);
     if s.elements == 0 {
         return t;
     }
     put(net, s.elements_at, 0xA000_02FF);
     let none = front(net, 0);
-    let d = due_refused(5, s.elements_at);
-    compare(
-        t,
-        front(net, length),
-        transition,
-        none,
-        9,
-        4,
-        d,
-        none,
-        buffer,
-    )
+    compare_input(t, front(net, length), transition, none, 5, s.elements_at)
 }
 
-// Two drawn nets; then the first one with an unfit element.
-fn judge_nets(
-    t: Tally,
-    p: Pair,
-    net: &mut [u32],
-    other: &[u32],
-    words: &mut [u32],
-    list: &mut [u32],
-    buffer: &mut [u32],
-    queue: &mut [u32],
-) -> Tally {
-    let two = front(other, p.second);
-    let judged = judge(t, p, front(net, p.first), two, words, list, buffer, queue);
-    compare_unfit(judged, net, p.first, p.transition, buffer)
-}
-
-// One case.
-fn sample(t: Tally, seed: u64, list: &mut [u32], buffer: &mut [u32], queue: &mut [u32]) -> Tally {
+// One case; then its first net with an unfit element.
+fn sample(t: Tally, seed: u64) -> Tally {
     let mut net = [0u32; 256];
     let mut other = [0u32; 256];
-    let mut words = [0u32; 512];
     let p = draw_nets(&mut net, &mut other, seed);
-    judge_nets(t, p, &mut net, &other, &mut words, list, buffer, queue)
+    let judged = judge(t, p, front(&net, p.first), front(&other, p.second));
+    compare_unfit(judged, &mut net, p.first, p.transition)
 }
 
-fn samples(count: u32, list: &mut [u32], buffer: &mut [u32], queue: &mut [u32]) -> Tally {
+fn samples(count: u32) -> Tally {
     let mut t = none();
     let mut seed: u64 = 2026;
     let mut left = count;
     while 0 < left {
-        t = sample(t, seed, list, buffer, queue);
+        t = sample(t, seed);
         seed = jump(seed);
         left -= 1;
     }
@@ -324,12 +303,16 @@ two transitions
     );
 }
 
-pub fn all(list: &mut [u32], buffer: &mut [u32], queue: &mut [u32]) {
-    heading(b"2000 drawn nets and markings");
-    let t = samples(2000, list, buffer, queue);
-    say_plans(t);
-    say_kinds(t);
+fn say_answers(t: Tally) {
     io::write_all(1, b"\ncalls by answer\n");
     answers(t, b"found");
     end(t);
+}
+
+pub fn all() {
+    heading(b"2000 drawn nets and markings");
+    let t = samples(2000);
+    say_plans(t);
+    say_kinds(t);
+    say_answers(t);
 }

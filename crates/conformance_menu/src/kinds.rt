@@ -15,6 +15,7 @@ use conformance_plain::reading::next_entry;
 use conformance_plain::reading::place_of;
 use conformance_plain::reading::plus;
 use conformance_plain::reading::raised;
+use conformance_plain::reading::shape_of;
 use conformance_plain::reading::skip;
 use conformance_plain::reading::skip_arcs;
 use conformance_plain::reading::wide;
@@ -298,23 +299,35 @@ fn count_work(t: Tally, w: Work, m: Met, l: Listing) -> Tally {
     add(d, TRIES, w.tries)
 }
 
+// What stands in the plan and in the arcs of a transition.
+fn count_found(t: Tally, net: &[u32], s: Shape, marking: &[u32]) -> Tally {
+    let f = coefficients(plan(nothing(), net, s, marking), net, s);
+    let a = count_plan(add(t, CASES, 1), s, get(net, s.elements_at), f.only);
+    count_arcs(a, f)
+}
+
+// The list, and whether the net has another transition.
+fn count_list(t: Tally, net: &[u32], list: &[u32], l: Listing) -> Tally {
+    let a = add_if(t, NEGATIVE, has_negative(list, l.words));
+    let b = add_if(a, SOME, l.count != 0);
+    let c = add_if(b, BESIDE, 1 < get(net, 0) % 256);
+    add(c, LISTED, l.count)
+}
+
 // A transition of a net with a marking, its list and its tries.
 pub fn count_kinds(
     t: Tally,
     net: &[u32],
-    s: Shape,
+    transition: u32,
     marking: &[u32],
     list: &[u32],
     l: Listing,
     queue: &[u32],
     w: Work,
 ) -> Tally {
+    let s = shape_of(net, transition);
     let met = meet_all(net, s, counts_of(net, marking), queue, w);
-    let f = coefficients(plan(nothing(), net, s, marking), net, s);
-    let a = count_plan(add(t, CASES, 1), s, get(net, s.elements_at), f.only);
-    let b = count_work(count_arcs(a, f), w, met, l);
-    let c = add_if(b, NEGATIVE, has_negative(list, l.words));
-    let d = add_if(c, SOME, l.count != 0);
-    let e = add_if(d, BESIDE, 1 < get(net, 0) % 256);
-    add(e, LISTED, l.count)
+    let a = count_work(t, w, met, l);
+    let b = count_found(a, net, s, marking);
+    count_list(b, net, list, l)
 }

@@ -12,13 +12,10 @@ mod kinds;
 mod outside;
 
 fn main() {
-    let mut list = [0u32; 16400];
-    let mut buffer = [0u32; 16400];
-    let mut queue = [0u32; 147465];
     io::write_all(
         1,
         b"menu against a lister over all bindings and a count of tries, document 01\n",
     );
-    outside::all(&mut list, &mut buffer, &mut queue);
-    drawn::all(&mut list, &mut buffer, &mut queue);
+    outside::all();
+    drawn::all();
 }

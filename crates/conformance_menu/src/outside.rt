@@ -1,6 +1,7 @@
 // Cases read from standard input: the examples of document 01 and outside cases, worked out by an independent brute-force implementation of it. They stand in the
 // file stdin beside this folder, a line each, with bars between its fields: name; net; marking; transition, budget and room; refusal, position, N and W; the
 // words of the list. Each is held against menu; where the input is accepted, the lister and the count of tries are held against menu too.
+use crate::compare::Call;
 use crate::compare::Due;
 use crate::compare::compare;
 use crate::drawn::compare_net;
@@ -17,7 +18,6 @@ use conformance_plain::reading::place_count;
 use conformance_plain::reading::shape_of;
 use conformance_plain::reading::wide;
 use conformance_plain::text::after;
-use conformance_plain::text::bar_after;
 use conformance_plain::text::field;
 use conformance_plain::text::find;
 use conformance_plain::text::part;
@@ -37,30 +37,17 @@ fn is_large(net: &[u32], s: Shape) -> bool {
 }
 
 // The lister and the count of tries on an accepted input.
-fn hold(
-    t: Tally,
-    net: &[u32],
-    transition: u32,
-    marking: &[u32],
-    list: &mut [u32],
-    buffer: &mut [u32],
-    queue: &mut [u32],
-) -> Tally {
+fn hold(t: Tally, net: &[u32], transition: u32, marking: &[u32]) -> Tally {
+    let mut list = [0u32; 16400];
     let s = shape_of(net, transition);
     if is_large(net, s) {
         return add(t, OVER, 1);
     }
-    let l = list_all(net, s, counts_of(net, marking), list);
-    compare_net(t, net, transition, marking, list, l, buffer, queue, false)
+    let l = list_all(net, s, counts_of(net, marking), &mut list);
+    compare_net(t, net, transition, marking, &list, l, false)
 }
 
 // The numbers of a call.
-struct Call {
-    transition: u32,
-    budget: u32,
-    room: usize,
-}
-
 fn call_of(text: &[u8]) -> Call {
     let mut c = [0u32; 3];
     write(&mut c, 0, text);
@@ -89,96 +76,35 @@ fn is_refused(number: u32) -> bool {
     0 < number && number < 10
 }
 
-// One case.
-fn run(
-    t: Tally,
-    net: &[u32],
-    marking: &[u32],
-    c: Call,
-    d: Due,
-    due: &[u32],
-    list: &mut [u32],
-    buffer: &mut [u32],
-    queue: &mut [u32],
-) -> Tally {
-    let told = compare(
-        t,
-        net,
-        c.transition,
-        marking,
-        c.budget,
-        c.room,
-        d,
-        due,
-        buffer,
-    );
+// A call against the answer that is due.
+fn run_call(t: Tally, net: &[u32], marking: &[u32], c: Call, d: Due, due: &[u32]) -> Tally {
+    let told = compare(t, net, marking, c, d, due);
     if is_refused(d.number) {
         return told;
     }
-    hold(told, net, c.transition, marking, list, buffer, queue)
+    hold(told, net, c.transition, marking)
 }
 
-// One case from its fields.
-fn run_fields(
-    t: Tally,
-    net: &[u8],
-    marking: &[u8],
-    numbers: &[u8],
-    answer: &[u8],
-    due: &[u8],
-    list: &mut [u32],
-    buffer: &mut [u32],
-    queue: &mut [u32],
-) -> Tally {
-    let mut n = [0u32; 128];
-    let mut m = [0u32; 64];
-    let mut d = [0u32; 64];
-    let n_end = write(&mut n, 0, net);
-    let m_end = write(&mut m, 0, marking);
-    let d_end = write(&mut d, 0, due);
-    run(
-        t,
-        front(&n, n_end),
-        front(&m, m_end),
-        call_of(numbers),
-        due_of(answer, d_end),
-        front(&d, d_end),
-        list,
-        buffer,
-        queue,
-    )
+// One case with its net and marking, from the other fields of its line.
+fn run(t: Tally, net: &[u32], marking: &[u32], line: &[u8]) -> Tally {
+    let mut due = [0u32; 64];
+    let end = write(&mut due, 0, field(line, 5));
+    let c = call_of(field(line, 3));
+    let d = due_of(field(line, 4), end);
+    run_call(t, net, marking, c, d, front(&due, end))
 }
 
-// The line from a position to its end.
-fn run_line(
-    t: Tally,
-    text: &[u8],
-    at: usize,
-    end: usize,
-    list: &mut [u32],
-    buffer: &mut [u32],
-    queue: &mut [u32],
-) -> Tally {
-    let net = bar_after(text, at, end);
-    let marking = bar_after(text, net, end);
-    let call = bar_after(text, marking, end);
-    let answer = bar_after(text, call, end);
-    let due = bar_after(text, answer, end);
-    run_fields(
-        t,
-        field(text, net, marking),
-        field(text, marking, call),
-        field(text, call, answer),
-        field(text, answer, due),
-        field(text, due, after(text, end, 1)),
-        list,
-        buffer,
-        queue,
-    )
+// One case from its line.
+fn run_line(t: Tally, line: &[u8]) -> Tally {
+    let mut net = [0u32; 128];
+    let mut marking = [0u32; 64];
+    let n = write(&mut net, 0, field(line, 1));
+    let m = write(&mut marking, 0, field(line, 2));
+    run(t, front(&net, n), front(&marking, m), line)
 }
 
 // Each line of a text.
-fn run_lines(text: &[u8], list: &mut [u32], buffer: &mut [u32], queue: &mut [u32]) -> Tally {
+fn run_lines(text: &[u8]) -> Tally {
     let mut t = none();
     let mut left = text.len();
     let mut at = 0;
@@ -187,7 +113,7 @@ fn run_lines(text: &[u8], list: &mut [u32], buffer: &mut [u32], queue: &mut [u32
             return t;
         }
         let end = find(text, at, b'\n');
-        t = run_line(t, text, at, end, list, buffer, queue);
+        t = run_line(t, part(text, at, end));
         at = after(text, end, 1);
         left -= 1;
     }
@@ -200,9 +126,9 @@ fn say(t: Tally) {
     end(t);
 }
 
-pub fn all(list: &mut [u32], buffer: &mut [u32], queue: &mut [u32]) {
+pub fn all() {
     let mut text = [0u8; 65536];
     let n = io::read_full(0, &mut text);
     heading(b"Examples of document 01 and outside cases");
-    say(run_lines(part(&text, 0, n), list, buffer, queue));
+    say(run_lines(part(&text, 0, n)));
 }

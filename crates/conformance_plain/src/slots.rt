@@ -33,16 +33,13 @@ pub fn with(b: Slots, v: usize, w: u32) -> Slots {
 
 // The eight slots at a position.
 pub fn slots_at(list: &[u32], at: usize) -> Slots {
-    let mut words = [0u32; 8];
-    words[0] = get(list, at);
-    words[1] = get(list, plus(at, 1));
-    words[2] = get(list, plus(at, 2));
-    words[3] = get(list, plus(at, 3));
-    words[4] = get(list, plus(at, 4));
-    words[5] = get(list, plus(at, 5));
-    words[6] = get(list, plus(at, 6));
-    words[7] = get(list, plus(at, 7));
-    Slots { words: words }
+    let mut b = unbound();
+    let mut v = 0;
+    while v < 8 {
+        b = with(b, v, get(list, plus(at, v)));
+        v += 1;
+    }
+    b
 }
 
 fn one_if_bound(w: u32) -> u32 {

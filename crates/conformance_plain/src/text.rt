@@ -1,4 +1,5 @@
 // Bytes and fields of lines of text, with bars between them.
+use crate::reading::less;
 
 // The byte at a position, 0 past the end.
 pub fn byte_at(text: &[u8], at: usize) -> u8 {
@@ -41,19 +42,28 @@ pub fn part(text: &[u8], start: usize, end: usize) -> &[u8] {
     &text[start..end]
 }
 
-// The next bar after a position, or the line's end.
-pub fn bar_after(text: &[u8], at: usize, end: usize) -> usize {
-    let bar = find(text, after(text, at, 1), b'|');
-    if end < bar {
-        return end;
+// The position of a line's bar by its number, counted from 1, or the line's length where it has fewer.
+fn bar(line: &[u8], number: u32) -> usize {
+    let mut at = 0;
+    let mut left = number;
+    while 0 < left {
+        at = find(line, after(line, at, 1), b'|');
+        left -= 1;
     }
-    bar
+    at
 }
 
-// The field between two bars, without the spaces beside them.
-pub fn field(text: &[u8], bar: usize, next: usize) -> &[u8] {
-    if next == 0 {
-        return &text[0..0];
+// The field of a line after the bar of a number, without the spaces beside it.
+pub fn field(line: &[u8], number: u32) -> &[u8] {
+    let start = after(line, bar(line, number), 2);
+    let next = bar(line, number % 16 + 1);
+    if next == line.len() {
+        return part(line, start, next);
     }
-    part(text, after(text, bar, 2), next - 1)
+    part(line, start, less(next))
+}
+
+// The first field of a line, its name, without the space before the bar.
+pub fn name(line: &[u8]) -> &[u8] {
+    part(line, 0, less(bar(line, 1)))
 }

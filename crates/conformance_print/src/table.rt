@@ -5,42 +5,28 @@ use crate::long::long;
 use conformance_plain::build::front;
 use conformance_plain::build::write;
 use conformance_plain::text::after;
-use conformance_plain::text::bar_after;
 use conformance_plain::text::byte_at;
 use conformance_plain::text::field;
 use conformance_plain::text::find;
+use conformance_plain::text::name;
 use conformance_plain::text::part;
 
-// One input from its fields.
-fn run(form: u8, name: &[u8], words: &[u8], bytes: &[u8]) {
+// One input from its line.
+fn run(form: u8, line: &[u8]) {
     let mut spare = [0u32; 4];
-    let n = write(&mut spare, 0, bytes);
+    let n = write(&mut spare, 0, field(line, 2));
     match form {
-        b'l' => long(name, words, front(&spare, n)),
-        _ => short(name, words, front(&spare, n)),
+        b'l' => long(name(line), field(line, 1), front(&spare, n)),
+        _ => short(name(line), field(line, 1), front(&spare, n)),
     }
 }
 
-// The input at a position.
-fn run_input(form: u8, text: &[u8], at: usize, end: usize) {
-    let words = bar_after(text, at, end);
-    let spare = bar_after(text, words, end);
-    if 0 < words {
-        run(
-            form,
-            part(text, at, words - 1),
-            field(text, words, spare),
-            field(text, spare, after(text, end, 1)),
-        );
+// A line; answers what the inputs under it are.
+fn run_line(form: u8, line: &[u8]) -> u8 {
+    if byte_at(line, 0) == b'*' {
+        return byte_at(line, 2);
     }
-}
-
-// The line at a position; answers what the inputs under it are.
-fn run_line(form: u8, text: &[u8], at: usize, end: usize) -> u8 {
-    if byte_at(text, at) == b'*' {
-        return byte_at(text, after(text, at, 2));
-    }
-    run_input(form, text, at, end);
+    run(form, line);
     form
 }
 
@@ -54,7 +40,7 @@ fn lines(text: &[u8]) {
             return;
         }
         let end = find(text, at, b'\n');
-        form = run_line(form, text, at, end);
+        form = run_line(form, part(text, at, end));
         at = after(text, end, 1);
         left -= 1;
     }

@@ -33,15 +33,19 @@ fn first(buffer: &mut [u32], n: usize) -> &mut [u32] {
     &mut buffer[0..n]
 }
 
-// The call.
-fn call(
+// The call on the first words of its buffers, of which the buffer for the marking holds certain words.
+fn ask(
     net: &[u32],
     g: Given,
+    before: &[u32],
     buffer: &mut [u32],
     spare: &mut [u32],
     menu: &mut [u32],
     picks: &[u32],
 ) -> Outcome {
+    copy(before, buffer, 1600);
+    fill(spare);
+    fill(menu);
     run(
         net,
         g.budget,
@@ -70,35 +74,42 @@ fn say_number(name: &[u8], n: usize) {
     io::print_decimal(1, n as u64);
 }
 
-fn say_input(net: &[u32], g: Given, before: &[u32], picks: &[u32]) {
-    io::write_all(1, b"DIFFERENCE\nnet");
-    say_words(net);
+fn say_list(name: &[u8], words: &[u32]) {
+    io::write_all(1, name);
+    say_words(words);
+}
+
+fn say_given(g: Given) {
     say_number(b"\nbudget ", wide(g.budget));
     say_number(b" m ", g.m);
     say_number(b" spare ", g.spare);
     say_number(b" menu ", g.menu);
-    io::write_all(1, b"\nbuffer");
-    say_words(front(before, g.buffer));
-    io::write_all(1, b"\npicks");
-    say_words(picks);
+}
+
+fn say_input(net: &[u32], g: Given, before: &[u32], picks: &[u32]) {
+    say_list(b"DIFFERENCE\nnet", net);
+    say_given(g);
+    say_list(b"\nbuffer", front(before, g.buffer));
+    say_list(b"\npicks", picks);
+}
+
+fn say_outcome(o: Outcome) {
+    say_number(b"done ", o.done);
+    say_number(b" refusal ", wide(o.refusal));
+    say_number(b" position ", o.position);
+    say_number(b" length ", o.length);
 }
 
 // An answer with what the buffer holds, and some words beyond.
 fn say_answer(name: &[u8], o: Outcome, g: Given, buffer: &[u32]) {
     io::write_all(1, name);
-    say_number(b"done ", o.done);
-    say_number(b" refusal ", wide(o.refusal));
-    say_number(b" position ", o.position);
-    say_number(b" length ", o.length);
-    io::write_all(1, b", buffer");
-    say_words(front(buffer, plus(g.buffer, 4)));
+    say_outcome(o);
+    say_list(b", buffer", front(buffer, plus(g.buffer, 4)));
 }
 
 fn say_rest(spare: &[u32], menu: &[u32], g: Given) {
-    io::write_all(1, b"\nspare");
-    say_words(front(spare, plus(g.spare, 4)));
-    io::write_all(1, b"\nmenu");
-    say_words(front(menu, plus(g.menu, 4)));
+    say_list(b"\nspare", front(spare, plus(g.spare, 4)));
+    say_list(b"\nmenu", front(menu, plus(g.menu, 4)));
     io::write_all(1, b"\n");
 }
 
@@ -110,23 +121,13 @@ fn counted(t: Tally, d: Outcome) -> Tally {
     add_if(c, LATER, 0 < d.done && d.refusal != 0)
 }
 
-// Whether the answer and the buffer are what is due, and spare and menu left as they have to be.
-fn is_same(
-    o: Outcome,
-    d: Outcome,
-    g: Given,
-    buffer: &[u32],
-    after: &[u32],
-    spare: &[u32],
-    menu: &[u32],
-    cleared: bool,
-) -> bool {
-    if !same_answer(o, d) {
-        return false;
-    }
-    if !same_words(buffer, after, 1600) {
-        return false;
-    }
+// Whether the answer and the buffer are what is due.
+fn is_due(o: Outcome, d: Outcome, buffer: &[u32], after: &[u32]) -> bool {
+    same_answer(o, d) && same_words(buffer, after, 1600)
+}
+
+// Whether spare and menu are left as they have to be.
+fn are_left(g: Given, spare: &[u32], menu: &[u32], cleared: bool) -> bool {
     is_left(spare, g.spare, cleared) && is_left(menu, g.menu, cleared)
 }
 
@@ -142,7 +143,33 @@ fn say_case(net: &[u32], g: Given, before: &[u32], picks: &[u32], d: Outcome, af
     say_answer(b"\ndue: ", d, g, after);
 }
 
-// One call of run against the answer that is due, the buffer as it has to be left, and whether spare and menu have to be cleared.
+// One call of run, with the words that its buffer holds, against the answer that is due, the buffer as it has to be left, and whether spare and menu have to
+// be cleared; a first difference is printed in full. Answers whether there is none.
+fn holds(
+    net: &[u32],
+    g: Given,
+    before: &[u32],
+    picks: &[u32],
+    d: Outcome,
+    after: &[u32],
+    cleared: bool,
+    first: bool,
+) -> bool {
+    let mut buffer = [0u32; 1600];
+    let mut spare = [0u32; 1600];
+    let mut menu = [0u32; 2400];
+    let o = ask(net, g, before, &mut buffer, &mut spare, &mut menu, picks);
+    if is_due(o, d, &buffer, after) && are_left(g, &spare, &menu, cleared) {
+        return true;
+    }
+    if first {
+        say_case(net, g, before, picks, d, after);
+        say_left(o, g, &buffer, &spare, &menu);
+    }
+    false
+}
+
+// One run against what is due of it.
 pub fn compare(
     t: Tally,
     net: &[u32],
@@ -153,20 +180,9 @@ pub fn compare(
     after: &[u32],
     cleared: bool,
 ) -> Tally {
-    let mut buffer = [0u32; 1600];
-    let mut spare = [0u32; 1600];
-    let mut menu = [0u32; 2400];
-    copy(before, &mut buffer, 1600);
-    fill(&mut spare);
-    fill(&mut menu);
-    let o = call(net, g, &mut buffer, &mut spare, &mut menu, picks);
     let told = counted(t, d);
-    if is_same(o, d, g, &buffer, after, &spare, &menu, cleared) {
+    if holds(net, g, before, picks, d, after, cleared, t.different == 0) {
         return told;
-    }
-    if t.different == 0 {
-        say_case(net, g, before, picks, d, after);
-        say_left(o, g, &buffer, &spare, &menu);
     }
     differ(told)
 }

@@ -207,6 +207,12 @@ fn damage(words: &mut [u32], m: usize, seed: u64) {
     put(words, at, damaged(w, pick(next(seed), 100)));
 }
 
+// One more run by what it is handed.
+fn count_given(t: Tally, g: Given, picks: usize) -> Tally {
+    let a = add_if(t, NO_PICKS, picks == 0);
+    add_if(a, SHORT_SPARE, g.spare < g.buffer)
+}
+
 // A run of an accepted net against the plain run.
 fn compare_plain(t: Tally, net: &[u32], g: Given, before: &[u32], picks: &[u32]) -> Tally {
     let mut after = [0u32; 1600];
@@ -215,9 +221,9 @@ fn compare_plain(t: Tally, net: &[u32], g: Given, before: &[u32], picks: &[u32])
     if d.refusal == TOO_LARGE {
         return add(t, LARGE, 1);
     }
-    let a = add_if(t, NO_PICKS, picks.len() == 0);
-    let b = add_if(a, SHORT_SPARE, g.spare < g.buffer);
-    compare(b, net, g, before, picks, d, &after, clears(d.refusal))
+    let told = count_given(t, g, picks.len());
+    let cleared = clears(d.refusal);
+    compare(told, net, g, before, picks, d, &after, cleared)
 }
 
 // A run: of the net a word short, with a word too many, or as it is.
@@ -245,35 +251,57 @@ fn compare_run(
     }
 }
 
-// A run of a net with its marking in the first words of a buffer, whose transitions have so many enabled bindings.
-fn draw_run(
-    t: Tally,
-    net: &[u32],
-    length: usize,
-    before: &mut [u32],
-    m: usize,
-    c: Counts,
-    sizes: &[u32],
+// What is drawn for a net with a marking: the picks and their number, what the run is handed beside them, and the state of the sequence. It is left out where
+// nothing is enabled, but for one in twelve.
+struct Draw {
+    kept: bool,
+    picks: [u32; 8],
+    count: usize,
+    given: Given,
     seed: u64,
-) -> Tally {
+}
+
+// A run of a net with a marking of m words, whose transitions have so many enabled bindings.
+fn draw_run(net: &[u32], c: Counts, m: usize, sizes: &[u32], seed: u64) -> Draw {
     let mut picks = [0u32; 8];
     let count = wide(pick(seed, 9));
     let s = jump(draw_picks(&mut picks, sizes, next(seed), count));
-    let g = draw_given(front(net, length), c, m, sizes, get(&picks, 0), s);
-    let k = jump(s);
-    damage(before, m, k);
+    let given = draw_given(net, c, m, sizes, picks[0], s);
+    Draw {
+        kept: !is_dead(sizes) || pick(jump(seed), 12) == 0,
+        picks: picks,
+        count: count,
+        given: given,
+        seed: jump(s),
+    }
+}
+
+// A run of a net with a marking.
+fn draw_of(net: &[u32], marking: &[u32], seed: u64) -> Draw {
+    let mut sizes = [0u32; 4];
+    let c = counts_of(net, marking);
+    list_sizes(net, c, &mut sizes);
+    let live = front(&sizes, wide(get(net, 0) % 256));
+    draw_run(net, c, marking.len(), live, seed)
+}
+
+// A run whose marking is in the buffer, damaged or not.
+fn compare_drawn(t: Tally, net: &[u32], length: usize, before: &[u32], r: Draw) -> Tally {
+    let g = r.given;
+    let picks = r.picks;
+    let k = pick(jump(r.seed), 60);
     compare_run(
         add(t, RUNS, 1),
         net,
         length,
         g,
         before,
-        front(&picks, count),
-        pick(jump(k), 60),
+        front(&picks, r.count),
+        k,
     )
 }
 
-// A run, or none where nothing is enabled.
+// A run of a net with its marking in the first m words of a buffer, where it is kept.
 fn sample_of(
     t: Tally,
     net: &[u32],
@@ -282,15 +310,12 @@ fn sample_of(
     m: usize,
     seed: u64,
 ) -> Tally {
-    let mut sizes = [0u32; 4];
-    let whole = front(net, length);
-    let c = counts_of(whole, front(before, m));
-    list_sizes(whole, c, &mut sizes);
-    let live = front(&sizes, wide(get(net, 0) % 256));
-    if is_dead(live) && pick(jump(seed), 12) != 0 {
+    let r = draw_of(front(net, length), front(before, m), seed);
+    if !r.kept {
         return t;
     }
-    draw_run(t, net, length, before, m, c, live, seed)
+    damage(before, m, r.seed);
+    compare_drawn(t, net, length, before, r)
 }
 
 // One run.
@@ -315,9 +340,7 @@ fn samples(count: u32) -> Tally {
     t
 }
 
-pub fn all() {
-    heading(b"Runs drawn of 6000 nets and markings");
-    let t = samples(6000);
+fn say_runs(t: Tally) {
     lines(
         t,
         b"runs
@@ -330,7 +353,17 @@ spare shorter than buffer
 ",
         RUNS,
     );
+}
+
+fn say_ends(t: Tally) {
     io::write_all(1, b"\nruns by how they end\n");
     answers(t, b"no refusal");
     end(t);
+}
+
+pub fn all() {
+    heading(b"Runs drawn of 6000 nets and markings");
+    let t = samples(6000);
+    say_runs(t);
+    say_ends(t);
 }

@@ -11,7 +11,6 @@ use conformance_plain::build::front;
 use conformance_plain::build::write;
 use conformance_plain::reading::wide;
 use conformance_plain::text::after;
-use conformance_plain::text::bar_after;
 use conformance_plain::text::field;
 use conformance_plain::text::find;
 use conformance_plain::text::part;
@@ -30,9 +29,8 @@ use semantics::Outcome;
 // Cases that were held against the plain run.
 const PLAIN: usize = 24;
 
-// The plain run against the answer that is due.
-fn hold_plain(
-    t: Tally,
+// Whether the plain run answers what is due.
+fn holds_plainly(
     net: &[u32],
     g: Given,
     before: &[u32],
@@ -40,12 +38,17 @@ fn hold_plain(
     d: Outcome,
     due: &[u32],
     cleared: bool,
-) -> Tally {
+) -> bool {
     let mut buffer = [0u32; 1600];
     copy(before, &mut buffer, 1600);
     let o = run_plainly(net, g, &mut buffer, picks);
+    same_answer(o, d) && same_words(&buffer, due, 1600) && clears(o.refusal) == cleared
+}
+
+// One more case that was held against the plain run.
+fn count_plain(t: Tally, same: bool) -> Tally {
     let counted = add(t, PLAIN, 1);
-    if same_answer(o, d) && same_words(&buffer, due, 1600) && clears(o.refusal) == cleared {
+    if same {
         return counted;
     }
     io::write_all(1, b"DIFFERENCE of the plain run\n");
@@ -72,7 +75,8 @@ fn hold(
     if is_net_refused(d.refusal) {
         return told;
     }
-    hold_plain(told, net, g, before, picks, d, due, cleared)
+    let same = holds_plainly(net, g, before, picks, d, due, cleared);
+    count_plain(told, same)
 }
 
 // The numbers of a call, with the buffer's length.
@@ -113,56 +117,25 @@ fn write_filled(words: &mut [u32], text: &[u8]) -> usize {
     write(words, 0, text)
 }
 
-// One case from its fields.
-fn hold_fields(
-    t: Tally,
-    net: &[u8],
-    buffer: &[u8],
-    call: &[u8],
-    picks: &[u8],
-    answer: &[u8],
-    due: &[u8],
-    cleared: &[u8],
-) -> Tally {
-    let mut n = [0u32; 128];
-    let mut b = [0u32; 1600];
-    let mut p = [0u32; 16];
-    let mut d = [0u32; 1600];
-    let n_end = write(&mut n, 0, net);
-    let b_end = write_filled(&mut b, buffer);
-    let p_end = write(&mut p, 0, picks);
-    write_filled(&mut d, due);
-    hold(
-        t,
-        front(&n, n_end),
-        given_of(call, b_end),
-        &b,
-        front(&p, p_end),
-        answer_of(answer),
-        &d,
-        is_cleared(cleared),
-    )
+// One case with its net and picks, from the other fields of its line.
+fn hold_case(t: Tally, net: &[u32], picks: &[u32], line: &[u8]) -> Tally {
+    let mut before = [0u32; 1600];
+    let mut due = [0u32; 1600];
+    let length = write_filled(&mut before, field(line, 2));
+    write_filled(&mut due, field(line, 6));
+    let g = given_of(field(line, 3), length);
+    let d = answer_of(field(line, 5));
+    let cleared = is_cleared(field(line, 7));
+    hold(t, net, g, &before, picks, d, &due, cleared)
 }
 
-// The line from a position to its end.
-fn hold_line(t: Tally, text: &[u8], at: usize, end: usize) -> Tally {
-    let net = bar_after(text, at, end);
-    let buffer = bar_after(text, net, end);
-    let call = bar_after(text, buffer, end);
-    let picks = bar_after(text, call, end);
-    let answer = bar_after(text, picks, end);
-    let due = bar_after(text, answer, end);
-    let cleared = bar_after(text, due, end);
-    hold_fields(
-        t,
-        field(text, net, buffer),
-        field(text, buffer, call),
-        field(text, call, picks),
-        field(text, picks, answer),
-        field(text, answer, due),
-        field(text, due, cleared),
-        field(text, cleared, after(text, end, 1)),
-    )
+// One case from its line.
+fn hold_line(t: Tally, line: &[u8]) -> Tally {
+    let mut net = [0u32; 128];
+    let mut picks = [0u32; 16];
+    let n = write(&mut net, 0, field(line, 1));
+    let p = write(&mut picks, 0, field(line, 4));
+    hold_case(t, front(&net, n), front(&picks, p), line)
 }
 
 // Each line of a text.
@@ -175,19 +148,22 @@ fn hold_lines(text: &[u8]) -> Tally {
             return t;
         }
         let end = find(text, at, b'\n');
-        t = hold_line(t, text, at, end);
+        t = hold_line(t, part(text, at, end));
         at = after(text, end, 1);
         left -= 1;
     }
     t
 }
 
+fn say(t: Tally) {
+    line(t, b"also held against the plain run", PLAIN);
+    answers(t, b"no refusal");
+    end(t);
+}
+
 pub fn all() {
     let mut text = [0u8; 65536];
     let n = io::read_full(0, &mut text);
     heading(b"Outside cases");
-    let t = hold_lines(part(&text, 0, n));
-    line(t, b"also held against the plain run", PLAIN);
-    answers(t, b"no refusal");
-    end(t);
+    say(hold_lines(part(&text, 0, n)));
 }

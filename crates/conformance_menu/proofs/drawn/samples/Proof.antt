@@ -1,48 +1,16 @@
--- `conformance_menu::drawn::samples` is safe and ends. The measure is the number of turns that are left; the buffers keep their lengths.
-use mathlib.Core.Path.{_≡_, refl}
+-- `conformance_menu::drawn::samples` is safe and ends. The measure is the number of turns that are left.
 use borrow.Author.Needs.{needs}
-use lib.ListN.{length}
 use Rattle.conformance_menu.proofs.drawn.samples.Statement.{statement}
 use Rattle.conformance_menu.proofs.drawn.samples.Tie as tie
 
 abbrev Inv-loop : tie.InvT-loop
-Inv-loop count list₀ buffer₀ queue₀ t₀ seed₀ left₀ list buffer queue t seed left = (length list ≡ length list₀) × (length buffer ≡ length buffer₀) × (length queue ≡ length queue₀)
+Inv-loop count t₀ seed₀ left₀ t seed left = Unit {0}
 
 abbrev μ-loop : tie.MeasureT-loop
-μ-loop count list₀ buffer₀ queue₀ t₀ seed₀ left₀ list buffer queue t seed left = left
-
-none-requires : tie.Need-none-requires Inv-loop μ-loop
-none-requires c κs = search needs
+μ-loop count t₀ seed₀ left₀ t seed left = left
 
 loop-holds : tie.Need-loop-holds Inv-loop μ-loop
-loop-holds c = (refl, refl, refl)
-
-sample-requires : tie.Need-sample-requires Inv-loop μ-loop
-sample-requires c κs = search needs
-
-jump-requires : tie.Need-jump-requires Inv-loop μ-loop
-jump-requires c κs = search needs
-
-sub-left : tie.Need-sub-left Inv-loop μ-loop
-sub-left c = search needs
-
-loop-less : tie.Need-loop-less Inv-loop μ-loop
-loop-less c = search needs
-
-loop-again : tie.Need-loop-again Inv-loop μ-loop
-loop-again c = search needs
-
-same-length : tie.Need-same-length Inv-loop μ-loop
-same-length c = search needs
-
-same-length-2 : tie.Need-same-length-2 Inv-loop μ-loop
-same-length-2 c = search needs
-
-same-length-3 : tie.Need-same-length-3 Inv-loop μ-loop
-same-length-3 c = search needs
-
-returns : tie.Need-returns Inv-loop μ-loop
-returns c = search needs
+loop-holds c = tt
 
 pub samples-spec : {M : Type 1} → statement M
 samples-spec =
@@ -50,14 +18,11 @@ samples-spec =
     (tie.spec
     Inv-loop
     μ-loop
-    none-requires
+    (λ c κs. search needs)
     loop-holds
-    sample-requires
-    jump-requires
-    sub-left
-    loop-less
-    loop-again
-    same-length
-    same-length-2
-    same-length-3
-    returns)
+    (λ c κs. search needs)
+    (λ c κs. search needs)
+    (λ c. search needs)
+    (λ c. search needs)
+    (λ c. search needs)
+    (λ c. search needs))

@@ -18,6 +18,9 @@ returns c = search needs
 find-requires : tie.Need-find-requires Inv-loop μ-loop
 find-requires c κs = search needs
 
+part-requires : tie.Need-part-requires Inv-loop μ-loop
+part-requires c κs = search needs
+
 run-line-requires : tie.Need-run-line-requires Inv-loop μ-loop
 run-line-requires c κs = search needs
 
@@ -45,6 +48,7 @@ lines-spec =
     loop-holds
     returns
     find-requires
+    part-requires
     run-line-requires
     after-requires
     sub-left

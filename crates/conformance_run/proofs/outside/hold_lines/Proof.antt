@@ -21,6 +21,9 @@ returns c = search needs
 find-requires : tie.Need-find-requires Inv-loop μ-loop
 find-requires c κs = search needs
 
+part-requires : tie.Need-part-requires Inv-loop μ-loop
+part-requires c κs = search needs
+
 hold-line-requires : tie.Need-hold-line-requires Inv-loop μ-loop
 hold-line-requires c κs = search needs
 
@@ -49,6 +52,7 @@ hold-lines-spec =
     loop-holds
     returns
     find-requires
+    part-requires
     hold-line-requires
     after-requires
     sub-left

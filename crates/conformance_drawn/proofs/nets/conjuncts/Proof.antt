@@ -1,9 +1,9 @@
--- `conformance_drawn::sample::conjuncts` is safe and ends. The measure is the number of conjuncts that are left; the buffer keeps its length.
+-- `conformance_drawn::nets::conjuncts` is safe and ends. The measure is the number of conjuncts that are left; the buffer keeps its length.
 use mathlib.Core.Path.{_≡_, refl}
 use borrow.Author.Needs.{needs}
 use lib.ListN.{length}
-use Rattle.conformance_drawn.proofs.sample.conjuncts.Statement.{statement}
-use Rattle.conformance_drawn.proofs.sample.conjuncts.Tie as tie
+use Rattle.conformance_drawn.proofs.nets.conjuncts.Statement.{statement}
+use Rattle.conformance_drawn.proofs.nets.conjuncts.Tie as tie
 
 abbrev Inv-loop : tie.InvT-loop
 Inv-loop words₀ count x y drawn₀ left₀ words drawn left = length words ≡ length words₀
