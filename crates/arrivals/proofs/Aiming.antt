@@ -6,7 +6,7 @@ use native.Mathlib.Omega.{arith}
 use lib.ListN.{length, getD}
 use Rattle.semantics.specs.Word.{payload}
 use Rattle.semantics.specs.Reading.{read, several}
-use Rattle.semantics.specs.Net.{Arc, rangesAt}
+use Rattle.semantics.specs.Net.{rangesAt}
 use Rattle.semantics.specs.ReadNet.{readExpression}
 use Rattle.semantics.proofs.Spans.{several-length}
 use Rattle.expression.proofs.Laws.{expression-short}

@@ -1,5 +1,5 @@
 -- 01, "Enabling and stepping": "each count after (count - inputs + outputs) at most 16,383". The counts that a step changes are those of the
--- keys that are not taken as often as they are made; they are told rising, each once, and where their old entries are.
+-- keys of which something else is made than is taken; they are told rising, each once, and where their old entries are.
 -- Rests on Keys, arcs/specs/Keys, gathering/specs/Gather, patch/specs/Patch and semantics/specs/Enabling.
 use mathlib.Core.Path.{_≡_}
 use mathlib.Core.Bool.{Bool, false, cond, not}

@@ -8,7 +8,7 @@ use native.Mathlib.Omega.{arith}
 use borrow.Author.Needs.{needs}
 use borrow.Fn.Kinds.{In}
 use borrow.Fn.PlainCycle.{Measures, is, falls, and}
-use lib.ListN.{length, take, drop, length-take}
+use lib.ListN.{length, drop}
 use Rattle.semantics.specs.Expression.{houseTable}
 use Rattle.semantics.specs.Tries.{tries}
 use Rattle.elements.specs.Bound.{sorted}
