@@ -1,4 +1,5 @@
 // Accepting nets: read, with their plans checked; `check` and `split`.
+#![tactic(auto)]
 
 // Nets that are accepted.
 pub mod accepted;

@@ -1,4 +1,5 @@
 // Colours and their values in words: held against the ranges of the net, in order, and as numbers.
+#![tactic(auto)]
 
 // VALUE words held against the ranges of the net.
 pub mod values;

@@ -1,4 +1,5 @@
 // For the conformance programs: nets, markings and plans drawn from a fixed sequence of numbers.
+#![tactic(auto)]
 
 // A sequence of numbers, and expressions drawn from it.
 pub mod draw;

@@ -1,5 +1,6 @@
 // Holds the calls test and fire against a plain firing on counts, on nets, markings and bindings drawn from a fixed sequence of numbers, and prints how
 // many cases had which answer. The numbers in the file stdout beside this folder were worked out from document 01 with the same sequence.
+#![tactic(auto)]
 
 // Damage to a case.
 mod damage;

@@ -1,4 +1,6 @@
 // Lists nets that check refuses, one for each reason: up to the refused word, and whole where a plan is refused.
+#![tactic(auto)]
+
 use listing::list::list_words;
 
 // No words.

@@ -1,5 +1,6 @@
 // For the conformance programs: document 01's menu read plainly, with nothing of the engine. What arcs move, the enabled bindings of a transition in order, and
 // the tries of its plan.
+#![tactic(auto)]
 
 // The count of tries.
 pub mod counting;

@@ -1,6 +1,7 @@
 // Holds the call menu against a lister that goes through all bindings of a transition in order and keeps those enabled under an array of counts, and W against
 // a separate count of the tries: on the cases of the file stdin beside this folder and on nets, markings and plans drawn from a fixed sequence of numbers. It prints how many
 // it compared by kind, and the first difference in full.
+#![tactic(auto)]
 
 // The call menu held against what is due.
 mod compare;

@@ -1,5 +1,6 @@
 // Prints what the calls check and split answer on nets, good and damaged in one place, a line for each case. The cases stand in the file stdin beside
 // this folder. What each line has to say was worked out from document 01 and stands in the file stdout.
+#![tactic(auto)]
 
 // Nets of 16,384 words.
 mod length;

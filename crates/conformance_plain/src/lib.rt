@@ -1,5 +1,6 @@
 // For the conformance programs: document 01 read plainly, with nothing of the engine. Words written as text, the parts of a net, what an expression is worth,
 // and a marking as an array of counts.
+#![tactic(auto)]
 
 // Words put into a buffer.
 pub mod build;

@@ -1,5 +1,6 @@
 // Prints the printed menu for the inputs of the file stdin beside this folder, each under a line with its name. What each has to say was worked out from
 // document 01 and stands in the file stdout.
+#![tactic(auto)]
 
 // Inputs as bytes.
 mod input;

@@ -1,4 +1,5 @@
 // For the conformance programs: lines of output that say what the calls answer and leave in the buffer, and numbers of cases by kind.
+#![tactic(auto)]
 
 // Lines of the output.
 pub mod report;

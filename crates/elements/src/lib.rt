@@ -1,4 +1,5 @@
 // Elements of plans, and the variables that each binds.
+#![tactic(auto)]
 
 // Elements of plans.
 pub mod element;

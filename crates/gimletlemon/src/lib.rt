@@ -1,4 +1,5 @@
 // What a C program links: the calls as functions on pointers, lengths and numbers. host/gimletlemon.h declares them.
+#![tactic(auto)]
 
 // Check and split.
 pub mod nets;

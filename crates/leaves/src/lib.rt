@@ -1,4 +1,5 @@
 // Full bindings, which a search ends in: put among the rows of the menu, where they are enabled.
+#![tactic(auto)]
 
 // What a search has come to so far.
 pub mod progress;

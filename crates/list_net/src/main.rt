@@ -1,5 +1,7 @@
 // Prints a net image, little-endian words from standard input, word by word: position, word in hexadecimal, and what it is in words, indented by
 // structure. At a refused word it prints the refusal and its reason. The refusal is the one of check, so that "refused 3 17" can be looked up.
+#![tactic(auto)]
+
 use listing::list::{list_words, print};
 use text_lines::line::put_bad_input;
 use word::bytes::words_of_bytes;

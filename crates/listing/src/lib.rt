@@ -1,4 +1,5 @@
 // Net images in words: a line for each word, and at a refused word the refusal of check and its reason.
+#![tactic(auto)]
 
 // Words on lines.
 pub mod list;

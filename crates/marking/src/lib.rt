@@ -1,5 +1,6 @@
 // Markings, bindings and picks read from words, with refusals 6 to 9.
 // Each contract is one equation with a definition of semantics.
+#![tactic(auto)]
 
 // One entry of a marking.
 pub mod entry;

@@ -1,4 +1,5 @@
 // The tries of matches, and the partial binding that each goes on with.
+#![tactic(auto)]
 
 // A match try: a colour held against the components of an arc.
 pub mod colour;

@@ -1,4 +1,5 @@
 // Nets: read from words in one pass, for the positions at which their structures begin.
+#![tactic(auto)]
 
 // Structures passed over, with the positions at which they begin.
 pub mod skim;

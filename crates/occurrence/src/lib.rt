@@ -1,4 +1,5 @@
 // Occurrences: whether a binding is enabled in a marking.
+#![tactic(auto)]
 
 // Whether a marking covers keys.
 pub mod cover;

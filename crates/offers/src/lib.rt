@@ -1,4 +1,5 @@
 // The printed menu of one transition: its lines, or why it is withheld.
+#![tactic(auto)]
 
 // Lines of bindings.
 pub mod lines;

@@ -1,5 +1,7 @@
 // The printed menu written to standard output, a part at a time. What is written is not proved: each part is, and proofs/Whole.antt of the crate
 // printed shows that the parts in their order are the text and that none is cut.
+#![tactic(auto)]
+
 ghost use Rattle.std.specs.Prelude.{◌≡◌, suc, ltb};
 ghost use Rattle.printed.specs.Texts.{parts};
 

@@ -1,4 +1,5 @@
 // The new marking, written from the old one and a list of changes.
+#![tactic(auto)]
 
 // What stays is copied, an entry that changes is written anew.
 pub mod write;

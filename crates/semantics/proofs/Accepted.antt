@@ -233,7 +233,7 @@ both_none : (p q : Option ℕ) → first_of p q ≡ none → (p ≡ none) × (q 
 both_none (some p) q e = (e, cc)
 both_none none q e = (refl, e)
 
-no_fault : {ts : List Transition} {t : Transition} → plans_fault ts ≡ none → Memᴰ t ts → plan_fault t [] t.plan ≡ none
+no_fault : {t : Transition} {ts : List Transition} → plans_fault ts ≡ none → Memᴰ t ts → plan_fault t [] t.plan ≡ none
 unfolding plans_fault
 no_fault e (Memᴰ.head {x = u} {xs = us} q) = rw q (both_none (plan_fault u [] u.plan) (plans_fault us) e).0
 no_fault e (Memᴰ.tail {x = u} {xs = us} k) = no_fault (both_none (plan_fault u [] u.plan) (plans_fault us) e).1 k

@@ -30,7 +30,7 @@ module _ {A : Type 0} where
   at_member_lem (x ∷ xs) zero a e = let q : a ≡ x = cc in Memᴰ.head q
   at_member_lem (x ∷ xs) (suc n) a e = Memᴰ.tail (at_member_lem xs n a e)
 
-  pub member_at : {xs : List A} {x : A} → Memᴰ x xs → (i : ℕ) × (get_elem? xs i ≡ some x)
+  pub member_at : {x : A} {xs : List A} → Memᴰ x xs → (i : ℕ) × (get_elem? xs i ≡ some x)
   member_at (Memᴰ.head e) = (zero, ap some (sym e))
   member_at (Memᴰ.tail k) = let r = member_at k in (suc r.0, r.1)
 

@@ -92,7 +92,7 @@ tuple_refl (x ∷ xs) = and_both (same_integer x x) (same_tuple xs xs) (integer_
 -- ── Tests of lists ──
 
 module _ {A : Type 0} (p : A → Bool) where
-  pub every_at : {xs : List A} {x : A} → every p xs ≡ true → Memᴰ x xs → p x ≡ true
+  pub every_at : {x : A} {xs : List A} → every p xs ≡ true → Memᴰ x xs → p x ≡ true
   unfolding every
   every_at e (Memᴰ.head {x = y} {xs = ys} q) = ap p q ∙ and_left (p y) (every p ys) e
   every_at e (Memᴰ.tail {x = y} {xs = ys} k) = every_at (and_right (p y) (every p ys) e) k
@@ -125,14 +125,14 @@ module _ {A : Type 0} (p : A → Bool) where
       by f (inl h) = (Memᴰ.head h.0, ap p h.0 ∙ h.1)
       by f (inr h) = (Memᴰ.tail (f h).0, (f h).1)
 
-  pub select_in : {xs : List A} {x : A} → Memᴰ x xs → p x ≡ true → Memᴰ x (select p xs)
+  pub select_in : {x : A} {xs : List A} → Memᴰ x xs → p x ≡ true → Memᴰ x (select p xs)
   unfolding select
   select_in (Memᴰ.head {x = y} {xs = ys} q) e = Memᴰ.cast q (cons_if-head (p y) y (select p ys) (ap p (sym q) ∙ e))
   select_in {x = z} (Memᴰ.tail {x = y} {xs = ys} k) e = cons_if_tail (p y) y z (select p ys) (select_in k e)
 
 -- a property of every member, by membership
 module _ {A : Type 0} (P : A → Type 0) where
-  pub Every-at : {xs : List A} {x : A} → Every P xs → Memᴰ x xs → P x
+  pub Every-at : {x : A} {xs : List A} → Every P xs → Memᴰ x xs → P x
   Every-at e (Memᴰ.head q) = subst P (sym q) e.0
   Every-at e (Memᴰ.tail k) = Every-at e.1 k
 

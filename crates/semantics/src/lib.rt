@@ -1,5 +1,6 @@
 // The answers of the public calls, so that the definitions in specs/ can name them.
 // What the numbers and values of document 01 are in each case stands in specs/Answer.antt.
+#![tactic(auto)]
 
 // Check: accepted, or refused with a number at a position.
 #[derive(Drop)]

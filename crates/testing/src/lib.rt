@@ -1,4 +1,5 @@
 // The call test: whether a binding of a transition is enabled in a marking.
+#![tactic(auto)]
 
 // The call test.
 pub mod test;

@@ -1,4 +1,5 @@
 // Partial bindings, which tries go on with, and the tries of ranges.
+#![tactic(auto)]
 
 // Partial bindings.
 pub mod partial;

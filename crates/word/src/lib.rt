@@ -1,4 +1,5 @@
 // The leaf functions on words. Each contract is one equation with a definition of semantics/specs.
+#![tactic(auto)]
 
 // Words from little-endian bytes.
 pub mod bytes;
