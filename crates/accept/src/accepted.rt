@@ -45,7 +45,7 @@ fn settled(plans: Reviewed, least: usize) -> Skipped
 }
 
 // Where a net ends or why it is refused, and how many places and transitions it has.
-#[derive(Drop)]
+#[derive(Clone, Copy)]
 pub struct Extent {
     pub end: Skipped,
     pub places: usize,

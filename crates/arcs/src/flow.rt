@@ -16,7 +16,7 @@ use evaluation::evaluate::{Evaluated, evaluate};
 use word::fields::{kind, payload, value_word, within};
 
 // The tokens that a coefficient tells, and the position after it; none where it has no value or is negative.
-#[derive(Drop)]
+#[derive(Clone, Copy)]
 pub enum Coefficient {
     Tokens(u32, usize),
     Nothing,
@@ -39,7 +39,7 @@ fn coefficient_at(net: &[u32], binding: &[u32], at: usize) -> Coefficient
 }
 
 // A component of a colour, and the position after it: its digit, or it has more than 14 bits; or it has no value.
-#[derive(Drop)]
+#[derive(Clone, Copy)]
 pub enum Component {
     Digit(u64, usize),
     Outside(usize),
@@ -87,7 +87,7 @@ fn component_at(net: &[u32], binding: &[u32], at: usize) -> Component
 }
 
 // The code of some components, as long as each is in its range.
-#[derive(Drop)]
+#[derive(Clone, Copy)]
 pub struct Coded {
     pub inside: bool,
     pub code: u64,
@@ -114,7 +114,7 @@ fn put_digit(c: Coded, range: u32, d: u64) -> Coded
 }
 
 // The code of a colour; it is outside its place; or a component has no value.
-#[derive(Drop)]
+#[derive(Clone, Copy)]
 pub enum Packed {
     Code(u64),
     Outside,
@@ -157,7 +157,7 @@ fn pack(net: &[u32], binding: &[u32], ranges: usize, n: usize, at: usize) -> Pac
 }
 
 // What an arc moves: so many tokens, at least one, of a key; none of any colour; some of a colour that its place cannot have; or it has no flow.
-#[derive(Drop)]
+#[derive(Clone, Copy)]
 pub enum Moved {
     Tokens(u64, u32),
     Idle,

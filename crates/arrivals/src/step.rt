@@ -18,7 +18,7 @@ use word::fields::{kind, payload};
 // A search step: the element that was arrived at, its number of tries, and what they need: for a match where the entries of its place begin, the
 // components of a colour there; for a solve where its conjunct stands. The first words of the arc's components and the values that are known of them
 // stand in words that the search lends.
-#[derive(Drop)]
+#[derive(Clone, Copy)]
 pub struct Step {
     pub element: Element,
     pub count: usize,

@@ -21,7 +21,7 @@ pub fn pick(seed: u64, n: u32) -> u32 {
 }
 
 // Words that are being drawn: the position after them, and the state of the sequence.
-#[derive(Drop)]
+#[derive(Clone, Copy)]
 pub struct Draft {
     pub at: usize,
     pub seed: u64,

@@ -222,7 +222,7 @@ fn inputs_of(k: u32) -> u32 {
 }
 
 // A drawn net without its plan: the position after its words, the state of the sequence, and the number of the drawn transition.
-#[derive(Drop)]
+#[derive(Clone, Copy)]
 pub struct Head {
     pub at: usize,
     pub seed: u64,

@@ -139,7 +139,7 @@ fn first_new(b: Slots) -> u32 {
 }
 
 // An element, and the state of the sequence.
-#[derive(Drop)]
+#[derive(Clone, Copy)]
 struct Choice {
     element: u32,
     seed: u64,

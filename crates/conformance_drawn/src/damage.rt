@@ -3,7 +3,7 @@ use conformance_plain::build::put;
 use conformance_plain::reading::less;
 
 // What the calls are handed, and the refusal for the input that is due, 0 for none.
-#[derive(Drop)]
+#[derive(Clone, Copy)]
 pub struct Input {
     pub net: usize,
     pub transition: u32,

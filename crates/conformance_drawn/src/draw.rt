@@ -7,7 +7,7 @@ use conformance_plain::build::put;
 use std::num::{wrapping_add_u32, wrapping_sub_u32};
 
 // An expression that was drawn: the position after its words, the state of the sequence, whether it has a value, and the value.
-#[derive(Drop)]
+#[derive(Clone, Copy)]
 pub struct Drawn {
     pub at: usize,
     pub seed: u64,

@@ -40,7 +40,7 @@ fn second_component(words: &mut [u32], a: Drawn, x: u32, y: u32, place: u32) -> 
 }
 
 // An arc that was drawn: what it says under x and y, the position after its words, and the state of the sequence.
-#[derive(Drop)]
+#[derive(Clone, Copy)]
 struct DrawnArc {
     flow: Flow,
     at: usize,
@@ -69,7 +69,7 @@ fn arc(words: &mut [u32], start: usize, seed: u64, x: u32, y: u32) -> DrawnArc {
 }
 
 // Arcs that were drawn: what they move under x and y, the position after their words, and the state of the sequence.
-#[derive(Drop)]
+#[derive(Clone, Copy)]
 struct DrawnArcs {
     moved: Moved,
     at: usize,
@@ -105,7 +105,7 @@ fn arcs(words: &mut [u32], start: usize, seed: u64, count: u32, x: u32, y: u32) 
 }
 
 // A guard that is being drawn: the position after its words, the state of the sequence, whether it holds so far.
-#[derive(Drop)]
+#[derive(Clone, Copy)]
 struct Guard {
     at: usize,
     seed: u64,
@@ -165,7 +165,7 @@ fn guards_of(k: u32) -> u32 {
 }
 
 // How many arcs and conjuncts a transition has.
-#[derive(Drop)]
+#[derive(Clone, Copy)]
 struct Shape {
     inputs: u32,
     outputs: u32,
@@ -208,7 +208,7 @@ fn end_net(words: &mut [u32], start: Guard, guards: u32, x: u32, y: u32) -> Guar
 }
 
 // A net: its words and their number, what its inputs take and its outputs give and whether its guard holds under x and y, and the state of the sequence.
-#[derive(Drop)]
+#[derive(Clone, Copy)]
 pub struct Net {
     pub words: [u32; 128],
     pub length: usize,

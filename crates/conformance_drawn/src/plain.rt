@@ -6,7 +6,7 @@ use conformance_plain::reading::{get, wide};
 use std::num::{wrapping_add_u32, wrapping_sub_u32};
 
 // What an arc says under a binding: its place, whether all its expressions have values, coefficient, components.
-#[derive(Drop)]
+#[derive(Clone, Copy)]
 pub struct Flow {
     pub place: u32,
     pub some: bool,
@@ -16,7 +16,7 @@ pub struct Flow {
 }
 
 // What arcs move of each colour, those that their places do not have in the last cell, and whether each arc passes.
-#[derive(Drop)]
+#[derive(Clone, Copy)]
 pub struct Moved {
     pub good: bool,
     pub sums: [u32; 13],

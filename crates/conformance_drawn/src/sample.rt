@@ -50,7 +50,7 @@ fn room_of(k: u32) -> usize {
 }
 
 // A drawn case: x and y, its net, the counts of its marking, the room, two kinds of damage, and the state of the sequence after it.
-#[derive(Drop)]
+#[derive(Clone, Copy)]
 struct Case {
     x: u32,
     y: u32,
@@ -106,7 +106,7 @@ fn refusal(enabled: bool, good: bool, fits: bool, room: usize, length: usize) ->
 }
 
 // What plain firing answers: the refusal or 0, the words of the new marking in the lent buffer, and whether the binding is enabled.
-#[derive(Drop)]
+#[derive(Clone, Copy)]
 struct Plain {
     enabled: bool,
     number: u32,

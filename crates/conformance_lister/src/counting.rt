@@ -11,7 +11,7 @@ use conformance_plain::value::{Value, evaluate};
 use std::num::{wrapping_add_u32, wrapping_add_u64};
 
 // The queue's first and next free position, how many tries were counted, whether a match and a solve was in vain, and whether the queue was too short.
-#[derive(Drop)]
+#[derive(Clone, Copy)]
 pub struct Work {
     pub head: usize,
     pub tail: usize,
@@ -22,7 +22,7 @@ pub struct Work {
 }
 
 // Whether a try goes on, and with which partial binding.
-#[derive(Drop)]
+#[derive(Clone, Copy)]
 struct Tried {
     on: bool,
     binding: Slots,
@@ -101,7 +101,7 @@ fn agree(
 }
 
 // A partial binding that arrives at an element, by its number; a full one after the last.
-#[derive(Drop)]
+#[derive(Clone, Copy)]
 pub struct Arrival {
     pub element: u32,
     pub binding: Slots,

@@ -25,7 +25,7 @@ fn colour_under(net: &[u32], start: usize, place: u32, b: Slots) -> Colour {
 }
 
 // An arc under a binding: whether its expressions have values and its coefficient is not negative, its colour's cell, and the coefficient.
-#[derive(Drop)]
+#[derive(Clone, Copy)]
 struct Flow {
     good: bool,
     cell: usize,

@@ -6,7 +6,7 @@ use conformance_plain::tuples::{put_slots, tuple_at, tuples};
 use std::num::wrapping_add_u32;
 
 // How many bindings are listed, and the number of their words.
-#[derive(Drop)]
+#[derive(Clone, Copy)]
 pub struct Listing {
     pub count: u32,
     pub words: usize,

@@ -8,7 +8,7 @@ use semantics::Listed;
 use std::num::wrapping_sub_u32;
 
 // The numbers of a call.
-#[derive(Drop)]
+#[derive(Clone, Copy)]
 pub struct Call {
     pub transition: u32,
     pub budget: u32,
@@ -16,7 +16,7 @@ pub struct Call {
 }
 
 // The answer that is due: a refusal with its number and position, or with 0 for the number N, W and how many words of the list are written.
-#[derive(Drop)]
+#[derive(Clone, Copy)]
 pub struct Due {
     pub number: u32,
     pub position: usize,

@@ -13,7 +13,7 @@ use conformance_report::report::{heading, same_words};
 use conformance_report::tally::{Tally, add, add_if, answers, end, lines, none};
 
 // An input that is refused: the lengths of net and marking, the transition, and the refusal.
-#[derive(Drop)]
+#[derive(Clone, Copy)]
 struct Spoilt {
     net: usize,
     transition: u32,
@@ -93,7 +93,7 @@ fn compare_spoilt(
 }
 
 // Two nets that differ only in their plans: their lengths, the number of the drawn transition, and the state of the sequence.
-#[derive(Drop)]
+#[derive(Clone, Copy)]
 struct Pair {
     first: usize,
     second: usize,

@@ -60,7 +60,7 @@ pub const UNORDERED: usize = 38;
 pub const BESIDE: usize = 39;
 
 // What stands in the arcs of a transition, and in its plan.
-#[derive(Drop)]
+#[derive(Clone, Copy)]
 struct Found {
     repeated: bool,
     constant: bool,
@@ -215,7 +215,7 @@ fn count_arcs(t: Tally, f: Found) -> Tally {
 }
 
 // The enabled bindings that the tries met so far: how many, whether they rose, and the last one.
-#[derive(Drop)]
+#[derive(Clone, Copy)]
 struct Met {
     count: u32,
     rising: bool,

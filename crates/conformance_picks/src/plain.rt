@@ -11,7 +11,7 @@ use semantics::Outcome;
 use std::num::wrapping_add_usize;
 
 // What a run is handed beside net, picks and what its buffers hold: the budget, the marking's length, and the lengths of buffer, spare and menu.
-#[derive(Drop)]
+#[derive(Clone, Copy)]
 pub struct Given {
     pub budget: u32,
     pub m: usize,
@@ -88,7 +88,7 @@ fn judge_input(net: &[u32], g: Given, buffer: &[u32], picks: &[u32]) -> Outcome 
 }
 
 // The run so far: picks done, what stopped it or 0, and the counts.
-#[derive(Drop)]
+#[derive(Clone, Copy)]
 struct State {
     done: usize,
     refusal: u32,

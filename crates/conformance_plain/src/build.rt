@@ -26,7 +26,7 @@ pub fn repeat(words: &mut [u32], at: usize, w: u32, times: usize) -> usize {
 }
 
 // What is read of a text: the position of the next word, whether it is in decimal, its kind and its other bits so far.
-#[derive(Drop)]
+#[derive(Clone, Copy)]
 struct Reading {
     next: usize,
     decimal: bool,

@@ -10,7 +10,7 @@ use std::num::{wrapping_add_u64, wrapping_sub_u64};
 pub const MOST_CELLS: usize = 256;
 
 // The counts, and whether all that was done to them could be done.
-#[derive(Drop)]
+#[derive(Clone, Copy)]
 pub struct Counts {
     pub good: bool,
     pub cells: [u32; 256],
@@ -33,7 +33,7 @@ pub fn first_cell(net: &[u32], place: u32) -> usize {
 }
 
 // A colour as far as its components are read: its index among those of its place, whether each component has a value, and whether each is in its range.
-#[derive(Drop)]
+#[derive(Clone, Copy)]
 pub struct Colour {
     pub some: bool,
     pub inside: bool,
@@ -68,7 +68,7 @@ pub fn cell_of(net: &[u32], place: u32, c: Colour) -> usize {
 }
 
 // A marking that is being read: the position reached, whether the word there can't be taken, the least cell of the next entry, and the counts so far.
-#[derive(Drop)]
+#[derive(Clone, Copy)]
 pub struct Marked {
     pub at: usize,
     pub refused: bool,

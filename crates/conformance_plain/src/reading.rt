@@ -121,7 +121,7 @@ pub fn skip_conjuncts(net: &[u32], start: usize, count: u32) -> usize {
 }
 
 // A transition: how many parts of each sort it has, and where they stand.
-#[derive(Drop)]
+#[derive(Clone, Copy)]
 pub struct Shape {
     pub at: usize,
     pub variables: u32,

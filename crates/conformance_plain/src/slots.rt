@@ -1,7 +1,7 @@
 // A binding that may be partial, as eight slots: a VALUE word where a variable is bound, 0 where it is not.
 use crate::reading::{get, kind, plus, wide};
 
-#[derive(Drop)]
+#[derive(Clone, Copy)]
 pub struct Slots {
     pub words: [u32; 8],
 }

@@ -4,7 +4,7 @@ use crate::slots::{Slots, slot};
 use std::num::{wrapping_add_u64, wrapping_sub_u64, wrapping_sub_usize};
 
 // A number, where there is one.
-#[derive(Drop)]
+#[derive(Clone, Copy)]
 pub struct Value {
     pub some: bool,
     pub number: u64,
@@ -120,7 +120,7 @@ fn result(code: u32, a: u64, b: u64) -> Value {
 }
 
 // Operands in wait, and whether each expression so far has a value.
-#[derive(Drop)]
+#[derive(Clone, Copy)]
 struct Stack {
     cells: [u64; 16],
     depth: usize,

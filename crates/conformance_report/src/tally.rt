@@ -4,7 +4,7 @@ use conformance_plain::text::{after, find, part};
 use std::num::wrapping_add_u32;
 
 // How many there are of each kind, and how many comparisons showed a difference.
-#[derive(Drop)]
+#[derive(Clone, Copy)]
 pub struct Tally {
     pub counts: [u32; 40],
     pub different: u32,

@@ -227,7 +227,7 @@ fn compare_run(
 
 // What is drawn for a net with a marking: the picks and their number, what the run is handed beside them, and the state of the sequence. It is left out where
 // nothing is enabled, but for one in twelve.
-#[derive(Drop)]
+#[derive(Clone, Copy)]
 struct Draw {
     kept: bool,
     picks: [u32; 8],

@@ -49,7 +49,7 @@ pub fn entries(words: usize, size: usize) -> usize
 }
 
 // Where an entry stands or would stand, and its count, 0 where there is none.
-#[derive(Drop)]
+#[derive(Clone, Copy)]
 pub struct Spot {
     pub at: usize,
     pub count: u32,

@@ -4,14 +4,14 @@ ghost use Rattle.semantics.specs.Word.{bits};
 ghost use Rattle.semantics.specs.ReadNet.{sort_of};
 ghost use Rattle.elements.specs.Bound.{sorted};
 
-#[derive(Drop)]
+#[derive(Clone, Copy)]
 pub enum Sort {
     Match(usize),
     Solve(usize),
     Range(usize),
 }
 
-#[derive(Drop)]
+#[derive(Clone, Copy)]
 pub struct Element {
     pub sort: Sort,
 }

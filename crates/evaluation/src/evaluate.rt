@@ -27,7 +27,7 @@ pub fn value_of(w: u32) -> Number
 
 // The value of an expression, if there is some, and the position after it. The value is told by two fields and not by an enum, whose bytes would be stored
 // one by one and loaded together, for which the processor waits.
-#[derive(Drop)]
+#[derive(Clone, Copy)]
 struct Outcome {
     some: bool,
     z: i32,
@@ -141,7 +141,7 @@ fn evaluate_load(words: &[u32], binding: &[u32], at: usize) -> Outcome
 }
 
 // The value of an expression and the position after it; or no value, and that position.
-#[derive(Drop)]
+#[derive(Clone, Copy)]
 pub enum Evaluated {
     Value(i32, usize),
     NoValue(usize),

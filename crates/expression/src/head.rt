@@ -8,7 +8,7 @@ use word::fields::{MOST_WORDS, kind, payload, signed};
 pub const MOST_EXPRESSION_WORDS: usize = 15;
 
 // What a word is as the first of an expression, the position after it and the words left; or a refusal's number and position.
-#[derive(Drop)]
+#[derive(Clone, Copy)]
 pub enum Head {
     Constant(i32, usize, usize),
     Variable(usize, usize, usize),

@@ -7,7 +7,7 @@ use crate::head::{Head, MOST_EXPRESSION_WORDS, head_at};
 use word::fields::{MOST_WORDS, kind, payload};
 
 // The position after an expression and the words left, or a refusal's number and position.
-#[derive(Drop)]
+#[derive(Clone, Copy)]
 enum Passed {
     To(usize, usize),
     Refused(u32, usize),
@@ -30,7 +30,7 @@ fn pass(words: &[u32], variables: usize, at: usize, left: usize) -> Passed
 }
 
 // The position after an expression, or a refusal's number and position.
-#[derive(Drop)]
+#[derive(Clone, Copy)]
 pub enum Skipped {
     Next(usize),
     Refused(u32, usize),

@@ -8,7 +8,7 @@ ghost use Rattle.gathering.specs.Gather.{Known, IsGathered, Keeps};
 use arcs::flow::{Moved, move_at};
 
 // How many arcs were gone through and how many keys they left; not all of them where the next one has no flow, or moves a colour that its place cannot have.
-#[derive(Drop)]
+#[derive(Clone, Copy)]
 pub struct Gathered {
     pub some: bool,
     pub arcs: usize,

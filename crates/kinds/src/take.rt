@@ -7,7 +7,7 @@ ghost use Rattle.kinds.specs.Taken.{fits_kind, range_word, IsTaken};
 use word::fields::{MOST_WORDS, kind, payload, signed};
 
 // The 28 bits of a word, or a refusal's number and position.
-#[derive(Drop)]
+#[derive(Clone, Copy)]
 pub enum Taken {
     Word(u32),
     Refused(u32, usize),

@@ -8,7 +8,7 @@ use word::fields::kind;
 use word::size::at_most;
 
 // Where an expression ends, where its text ends, and how many words it might still have had.
-#[derive(Drop)]
+#[derive(Clone, Copy)]
 pub struct Spelled {
     pub next: usize,
     pub at: usize,

@@ -3,7 +3,7 @@ use word::fields::{kind, payload};
 
 // The payloads of the NET word and of the last PLACE or TRANSITION word, which of the two it was (its kind), how many places and transitions have begun,
 // how many RANGE words, arcs, conjuncts and elements it has had, and how many expressions are still due.
-#[derive(Drop)]
+#[derive(Clone, Copy)]
 pub struct State {
     pub net: u32,
     pub head: u32,

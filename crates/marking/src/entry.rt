@@ -12,7 +12,7 @@ use kinds::take::{Taken, take};
 use word::fields::payload;
 
 // The place of an entry and the position after it, or a refusal's number and position.
-#[derive(Drop)]
+#[derive(Clone, Copy)]
 pub enum EntryRead {
     Entry(usize, usize),
     Refused(u32, usize),

@@ -6,7 +6,7 @@ ghost use Rattle.marking.specs.Picks.{first_pick};
 use word::fields::{kind, payload};
 
 // The position of a pick, or there is none such.
-#[derive(Drop)]
+#[derive(Clone, Copy)]
 pub enum FirstPick {
     At(usize),
     Nothing,

@@ -13,7 +13,7 @@ use tries::partial::restore;
 use word::fields::{kind, payload, signed, value_word};
 
 // How a component of a colour stands to one of an arc: it agrees, it differs, or a variable takes it, as a VALUE word.
-#[derive(Drop)]
+#[derive(Clone, Copy)]
 pub enum Met {
     Agrees,
     Differs,

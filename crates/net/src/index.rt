@@ -9,7 +9,7 @@ use expression::read::Skipped;
 use kinds::take::{Taken, take};
 
 // A transition whose parts stand in tables: where it ends or why it cannot be read, and how many of each part it has.
-#[derive(Drop)]
+#[derive(Clone, Copy)]
 pub struct Parts {
     pub end: Skipped,
     pub variables: usize,
@@ -94,7 +94,7 @@ pub fn refusal_of(t: Taken) -> Skipped
 }
 
 // A place: where it ends or why it cannot be read, and its number of components.
-#[derive(Drop)]
+#[derive(Clone, Copy)]
 pub struct PlaceIndex {
     pub end: Skipped,
     pub width: usize,
@@ -150,7 +150,7 @@ pub fn read_places(
 }
 
 // A net: where it ends or why it cannot be read, its places with their numbers of components, and its transitions.
-#[derive(Drop)]
+#[derive(Clone, Copy)]
 pub struct NetIndex {
     pub end: Skipped,
     pub places: usize,

@@ -13,7 +13,7 @@ ghost use Rattle.numbers.specs.Number.{number};
 use word::fields::modulo;
 
 // A value that may be missing. Values are -2^31 to 2^31 - 1.
-#[derive(Drop)]
+#[derive(Clone, Copy)]
 pub enum Number {
     Some(i32),
     None,

@@ -10,7 +10,7 @@ use semantics::{Fired, Listed};
 use word::size::at_most;
 
 // The refusal that stops a pick, 0 for none, and the length of the marking after it.
-#[derive(Drop)]
+#[derive(Clone, Copy)]
 pub struct Picked {
     pub refusal: u32,
     pub length: usize,

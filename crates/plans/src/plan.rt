@@ -47,7 +47,7 @@ fn newly_bound(
 }
 
 // Where a plan is at fault.
-#[derive(Drop)]
+#[derive(Clone, Copy)]
 pub enum Fault {
     At(usize),
     Nothing,
@@ -99,7 +99,7 @@ fn plan_fault(
 }
 
 // What was read of transitions: where they end or why they cannot be read, and the first fault of their plans.
-#[derive(Drop)]
+#[derive(Clone, Copy)]
 pub struct Reviewed {
     pub end: Skipped,
     pub fault: Fault,

@@ -14,7 +14,7 @@ use text_lines::line::put_bad_input;
 use word::bytes::words_of_bytes;
 
 // How many bytes of the buffer a part takes, and whether another part follows.
-#[derive(Drop)]
+#[derive(Clone, Copy)]
 pub struct Part {
     pub written: usize,
     pub more: bool,

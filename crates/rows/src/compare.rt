@@ -6,7 +6,7 @@ use numbers::number::less;
 use word::fields::signed;
 
 // How one row stands to another.
-#[derive(Drop)]
+#[derive(Clone, Copy)]
 pub enum Order {
     Under,
     Same,

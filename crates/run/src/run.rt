@@ -13,7 +13,7 @@ use starts::begin::begin;
 use word::size::at_most;
 
 // Where a run ended: picks done, the refusal that stopped it or 0, and the length of the marking.
-#[derive(Drop)]
+#[derive(Clone, Copy)]
 pub struct Ended {
     pub done: usize,
     pub refusal: u32,

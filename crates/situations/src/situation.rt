@@ -10,7 +10,7 @@ use net::index::{Parts, parts_of};
 use word::size::at_most;
 
 // How many places an accepted net has, the position of one of its transitions and how many of each part it has; or a refusal.
-#[derive(Drop)]
+#[derive(Clone, Copy)]
 pub struct Situation {
     pub end: Skipped,
     pub places: usize,

@@ -32,7 +32,7 @@ fn bind_value(
 }
 
 // An unbound variable that stands alone at a position, or none does.
-#[derive(Drop)]
+#[derive(Clone, Copy)]
 pub enum Lone {
     Unbound(usize),
     Nothing,

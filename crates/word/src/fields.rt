@@ -57,7 +57,7 @@ pub fn token_word(place: u32, count: u32) -> u32
 }
 
 // A range of values, its ends included.
-#[derive(Drop)]
+#[derive(Clone, Copy)]
 pub struct Range {
     pub low: i32,
     pub high: i32,
