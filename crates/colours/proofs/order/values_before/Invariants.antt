@@ -1,0 +1,12 @@
+-- `colours::order::values_before` meets its contract: the loop of `Comparing` over words and words.
+use Prim.Native.Nat.{◌-◌}
+use Rattle.colours.proofs.Comparing.{WordsLeft, words-start, words_more, words_turn, comparing}
+use native.Mathlib.Omega.{arith}
+use borrow.Author.Rules.{rules}
+use Rattle.colours.proofs.order.values_before.Given as goal
+
+abbrev pub invariant-loop-i : goal.invariant-loop-i
+invariant-loop-i l = WordsLeft l.words l.n l.a l.b l.i
+
+abbrev pub decreases-loop-i : goal.decreases-loop-i
+decreases-loop-i l = l.n - l.i

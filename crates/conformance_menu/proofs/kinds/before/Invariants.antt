@@ -1,0 +1,9 @@
+-- `conformance_menu::kinds::before` is safe and ends. The measure is the number of turns that are left.
+use Rattle.std.proofs.Common.{◌-◌, rules}
+use Rattle.conformance_menu.proofs.kinds.before.Given as goal
+
+abbrev pub invariant-loop-v : goal.invariant-loop-v
+invariant-loop-v l = Unit {0}
+
+abbrev pub decreases-loop-v : goal.decreases-loop-v
+decreases-loop-v l = 8 - l.v

@@ -1,0 +1,6 @@
+-- `conformance_menu::kinds::has_negative` is safe and ends. The measure is the number of turns that are left.
+use Rattle.std.proofs.Common.{◌-◌, rules}
+use Rattle.conformance_menu.proofs.kinds.has_negative.Goals as goal
+
+pub loop-i-init : goal.loop-i-init
+loop-i-init c = tt

@@ -1,0 +1,8 @@
+-- `gimletlemon::test::gimletlemon_test_bytes` meets its contract: what test answers on bytes is told.
+use Rattle.semantics.specs.Answer.{test_refusal, test_yes}
+use Rattle.gimletlemon.proofs.Telling.{passed_on}
+use borrow.Author.Rules.{rules}
+use Rattle.gimletlemon.proofs.test.gimletlemon_test_bytes.Goals as goal
+
+pub returns : goal.returns
+returns c = let e = c.test_bytes.ensures in record { position_after = passed_on test_refusal e c.tell_test.ensures.position_after; enabled_after = passed_on test_yes e c.tell_test.ensures.enabled_after }

@@ -1,0 +1,18 @@
+-- `listing::lines::put_from` is safe and ends: the loop keeps the buffer's length, and the measure is the number of bytes that are left.
+use mathlib.Core.Path.{◌≡◌, refl, ◌∙◌}
+use Prim.Native.Nat.{◌-◌}
+use borrow.Author.Rules.{rules}
+use lib.ListN.{length}
+use Rattle.listing.proofs.lines.put_from.Goals as goal
+
+pub loop-i-init : goal.loop-i-init
+loop-i-init c = refl
+
+pub shape_of-out-then-text-i-eq10 : goal.shape_of-out-then-text-i-eq10
+shape_of-out-then-text-i-eq10 c = c.loop-i.invariant
+
+pub loop-i-preserved : goal.loop-i-preserved
+loop-i-preserved c = c.put_byte-next.auto.out ∙ c.loop-i.invariant
+
+pub shape_of-out : goal.shape_of-out
+shape_of-out c = c.loop-i.invariant

@@ -1,0 +1,15 @@
+-- `matches::known::known_parts` meets its contract: the words so far are known, those ahead are 0 as they were lent and say nothing.
+use mathlib.Core.Path.{◌≡◌, refl, ◌∙◌}
+use Prim.Native.Nat.{◌-◌}
+use native.Mathlib.Omega.{arith}
+use borrow.Author.Rules.{rules}
+use lib.ListN.{length, length-set}
+use Rattle.matches.specs.Known.{Knows}
+use Rattle.matches.proofs.Knowing.{knows_nothing, knows_more}
+use Rattle.matches.proofs.known.known_parts.Given as goal
+
+abbrev pub invariant-loop-i : goal.invariant-loop-i
+invariant-loop-i l = (length l.known ≡ 4) × Knows l.variables l.b l.parts l.known
+
+abbrev pub decreases-loop-i : goal.decreases-loop-i
+decreases-loop-i l = l.width - l.i

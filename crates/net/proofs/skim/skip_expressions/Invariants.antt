@@ -1,0 +1,13 @@
+-- `net::skim::skip_expressions` meets its contract: the loop of `Loops` over the reader of an expression.
+use native.Mathlib.Omega.{arith}
+use Prim.Native.Nat.{◌-◌}
+use borrow.Author.Rules.{rules}
+use Rattle.net.specs.Skim.{skim_expression}
+use Rattle.net.proofs.Loops.{Ahead, ahead_start, looping}
+use Rattle.net.proofs.skim.skip_expressions.Given as goal
+
+abbrev pub invariant-loop-i : goal.invariant-loop-i
+invariant-loop-i l = Ahead (skim_expression l.words l.variables) l.n l.at l.i l.next
+
+abbrev pub decreases-loop-i : goal.decreases-loop-i
+decreases-loop-i l = l.n - l.i

@@ -1,0 +1,23 @@
+-- `numbers::number::apply_load` meets its contract.
+use mathlib.Core.Path.{refl}
+use mathlib.Core.Option.{bind}
+use borrow.Author.Rules.{rules}
+use Rattle.word.proofs.Read.{read_back}
+use Rattle.numbers.proofs.number.apply_load.Goals as goal
+
+pub enum_known-x : goal.enum_known-x
+enum_known-x c = search rules
+
+pub enum_told-1 : goal.enum_told-1
+enum_told-1 c = search rules
+
+pub returns-in-Some : goal.returns-in-Some
+unfolding bind
+returns-in-Some c =
+    let x = c.x-1.given in
+    let p = read_back x.0.0 c.known_told-1.given.0.1 in
+    rw x.1 (simp p at c.load.ensures)
+
+pub returns-in-None : goal.returns-in-None
+unfolding bind
+returns-in-None c = rw c.in-None.is refl

@@ -1,0 +1,29 @@
+-- `numbers::number::operate` meets its contract: two operands with values go to `binary`, and any other pair has none.
+use mathlib.Core.Path.{refl}
+use mathlib.Core.Option.{bind}
+use borrow.Author.Rules.{rules}
+use Rattle.word.proofs.Read.{read_back}
+use Rattle.numbers.proofs.number.operate.Goals as goal
+
+pub enum_known-x : goal.enum_known-x
+enum_known-x c = search rules
+
+pub enum_told-1 : goal.enum_told-1
+enum_told-1 c = search rules
+
+pub returns-in-Some-y : goal.returns-in-Some-y
+unfolding bind
+returns-in-Some-y c =
+    let x = c.x-1.given in
+    let y = c.y-1.given in
+    let p = read_back x.0.0 c.known_told-1.given.0.1 in
+    let q = read_back y.0.0 c.known_told-in-Some-1.given.0.1 in
+    rw (x.1, y.1) (simp (p, q) at c.binary.ensures)
+
+pub returns-in-None-y : goal.returns-in-None-y
+unfolding bind
+returns-in-None-y c = rw (c.in-Some.is, c.in-None-y.is) refl
+
+pub returns-in-None : goal.returns-in-None
+unfolding bind
+returns-in-None c = rw c.in-None.is refl

@@ -1,0 +1,10 @@
+-- `patch::entry::write_values` meets its contract: the loop of `Writing` over the digits of the code, the last one first.
+use native.Mathlib.Omega.{arith}
+use Rattle.patch.proofs.Writing.{Filling, filling_start, filling_turn, filling_end}
+use Rattle.patch.proofs.entry.write_values.Given as goal
+
+abbrev pub invariant-loop-j : goal.invariant-loop-j
+invariant-loop-j l = Filling l.initial.next l.at l.n l.code l.j l.rest l.next
+
+abbrev pub decreases-loop-j : goal.decreases-loop-j
+decreases-loop-j l = l.j

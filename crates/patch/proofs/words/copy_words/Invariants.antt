@@ -1,0 +1,14 @@
+-- `patch::words::copy_words` meets its contract: the words copied so far are the first of the part.
+use mathlib.Core.Path.{◌≡◌, refl, ◌∙◌}
+use Prim.Native.Nat.{◌-◌, ◌+◌, ◌≤◌}
+use lib.ListN.{length, get_or, length-set}
+use lib.Seq.{slice, paste, paste-zero}
+use Rattle.patch.proofs.Writing.{copy_turn, copy_end}
+use native.Mathlib.Omega.{arith}
+use Rattle.patch.proofs.words.copy_words.Given as goal
+
+abbrev pub invariant-loop-j : goal.invariant-loop-j
+invariant-loop-j l = (l.j ≤ l.n) × (length l.next ≡ length l.initial.next) × (l.next ≡ paste l.initial.next l.at (slice l.from l.to l.words) l.j)
+
+abbrev pub decreases-loop-j : goal.decreases-loop-j
+decreases-loop-j l = l.n - l.j
