@@ -29,7 +29,7 @@ over_zero (negsuc n) e = false_true e
 
 -- an i32 that a call or a match gave
 pub read_back : (z : ℤ) → mag z < 2 ^ 31 → to_z w32 (of_z w32 z) ≡ z
-read_back z h = to_z-of_z (sfits_of h)
+read_back z h = to_z-of_z {w = w32} (sfits_of h)
 
 module _ {z : ℤ} (f : SFits w32 z) where
   -- `if z < 0`
@@ -58,7 +58,7 @@ module _ {z : ℤ} (f : SFits w32 z) where
 
   -- `z as i64`
   pub read_wide : to_z w64 (of_z w64 z) ≡ z
-  read_wide = to_z-of_z (sfits_widen tt f)
+  read_wide = to_z-of_z {w = w64} (sfits_widen {w = w32} tt f)
 
 -- `x == y`: the machine compares the bits
 pub same_bits : (x y : ℤ) → SFits w32 x → SFits w32 y → eqb (of_z w32 x) (of_z w32 y) ≡ same_integer x y

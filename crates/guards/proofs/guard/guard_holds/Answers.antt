@@ -11,10 +11,10 @@ pub loop-i-init : goal.loop-i-init
 loop-i-init c = guarding_start _ _ _
 
 pub returns-then-not-holds_at : goal.returns-then-not-holds_at
-returns-then-not-holds_at c = guarding_stop c.loop-i.invariant c.loop-i-test.true c.holds_at.ensures (not-true _ c.if-not-holds_at.true)
+returns-then-not-holds_at c = guarding_stop c.loop-i.invariant c.loop-i-test.true c.holds_at.ensures (c.if-not-holds_at.true)
 
 pub loop-i-preserved : goal.loop-i-preserved
-loop-i-preserved c = guarding_turn c.loop-i.invariant c.loop-i-test.true c.holds_at.ensures (not-false _ c.if-not-holds_at.false)
+loop-i-preserved c = guarding_turn c.loop-i.invariant c.loop-i-test.true c.holds_at.ensures (c.if-not-holds_at.false)
 
 pub returns : goal.returns
 returns c = guarding_end c.loop-i.invariant c.loop-i-test.false

@@ -51,7 +51,7 @@ returns-in_default c = search tests
 
 pub returns-in-0 : goal.returns-in-0
 unfolding fits_kind
-returns-in-0 c = ⊎_elim (λ e. rw e refl) (λ e. rw e refl) c.in-0.keys7
+returns-in-0 c = ⊎_elim (λ e. rw e refl) (λ e. rw e refl) c.in-0.in-0-own.keys7
 
 pub returns-in-0-2 : goal.returns-in-0-2
 unfolding fits_kind

@@ -10,8 +10,8 @@ pub returns-then-p-ge65536 : goal.returns-then-p-ge65536
 returns-then-p-ge65536 c = rw (le-ltb c.args.p 65536 (omega arith)) refl
 
 pub returns-then-not-in_limits : goal.returns-then-not-in_limits
-returns-then-not-in_limits c = rw (lt-ltb c.args.p 65536 (omega arith), sym c.in_limits.ensures ∙ not-true _ c.if-not-in_limits.true) refl
+returns-then-not-in_limits c = rw (lt-ltb c.args.p 65536 (omega arith), sym c.in_limits.ensures ∙ c.if-not-in_limits.true) refl
 
 pub returns : goal.returns
 returns c =
-    rw (lt-ltb c.args.p 65536 (omega arith), sym c.in_limits.ensures ∙ not-false _ c.if-not-in_limits.false, bits-low) c.in_limits-2.ensures
+    rw (lt-ltb c.args.p 65536 (omega arith), sym c.in_limits.ensures ∙ c.if-not-in_limits.false, bits-low) c.in_limits-2.ensures

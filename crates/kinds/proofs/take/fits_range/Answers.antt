@@ -12,4 +12,4 @@ pub returns : goal.returns
 returns c =
     let low = c.signed in
     let high = c.signed-2 in
-    rw (read_back low.result low.type-inv, read_back high.result high.type-inv, low.ensures.0, high.ensures.0, bits-low) refl
+    rw (read_back low.result low.type_inv, read_back high.result high.type_inv, low.ensures.0, high.ensures.0, bits-low) refl

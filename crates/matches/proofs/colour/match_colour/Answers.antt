@@ -17,7 +17,7 @@ use Rattle.matches.proofs.colour.match_colour.Goals as goal
 
 -- what the last component met
 met : (c : goal.After-meet_part) → IsMet c.args.variables c.loop-i.slots (part_try (ranges_from c.args.net.now c.args.variables c.args.ranges) (get_or c.args.parts.now c.loop-i.i 0) (signed (get_or c.args.marking.now (c.args.at + c.loop-i.i) 0 % 16384)) (partial_of c.args.variables c.loop-i.slots)) c.meet_part.result
-met c = subst (λ (z : ℤ). IsMet c.args.variables c.loop-i.slots (part_try (ranges_from c.args.net.now c.args.variables c.args.ranges) (get_or c.args.parts.now c.loop-i.i 0) z (partial_of c.args.variables c.loop-i.slots)) c.meet_part.result) c.signed.ensures.0 (simp (read_back c.signed.result c.signed.type-inv) at c.meet_part.ensures)
+met c = subst (λ (z : ℤ). IsMet c.args.variables c.loop-i.slots (part_try (ranges_from c.args.net.now c.args.variables c.args.ranges) (get_or c.args.parts.now c.loop-i.i 0) z (partial_of c.args.variables c.loop-i.slots)) c.meet_part.result) c.signed.ensures.0 (simp (read_back c.signed.result c.signed.type_inv) at c.meet_part.ensures)
 
 pub loop-i-init : goal.loop-i-init
 loop-i-init c = held_start _ _ _ _ _ _ _ c.requires.slots_len.0

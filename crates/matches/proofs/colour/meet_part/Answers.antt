@@ -9,7 +9,7 @@ use Rattle.matches.proofs.Agreeing.{part-constant, part-variable, part_waits}
 use Rattle.matches.proofs.colour.meet_part.Goals as goal
 
 pub returns-in-7 : goal.returns-in-7
-returns-in-7 c = part-constant _ _ _ c.args.part c.args.z c.kind.ensures.0 _ c.in-7.is ((simp (to_z-of_z c.ranges.z, read_back c.signed.result c.signed.type-inv) at c.equal.ensures) ∙ ap (λ (x : ℤ). same_integer x c.args.z) c.signed.ensures.0) c.met_if.ensures
+returns-in-7 c = part-constant _ _ _ c.args.part c.args.z c.kind.ensures.0 _ c.in-7.is ((simp (to_z-of_z c.ranges.z, read_back c.signed.result c.signed.type_inv) at c.equal.ensures) ∙ ap (λ (x : ℤ). same_integer x c.args.z) c.signed.ensures.0) c.met_if.ensures
 
 pub returns-in-8 : goal.returns-in-8
 returns-in-8 c = part-variable _ _ _ c.args.part c.args.z c.kind.ensures.0 c.in-8.is c.payload.ensures.0 (simp (to_z-of_z c.ranges.z) at c.meet_variable.ensures)

@@ -19,4 +19,4 @@ overflow_add-x c = search (rules, sum_fits, read_wide)
 pub returns : goal.returns
 unfolding operate
 returns c =
-    rw (c.short_of.ensures, to_z-of_z (overflow_add-x (goal.at.returns c).Start), to_z-of_z c.ranges.x, to_z-of_z c.ranges.y, read_wide c.ranges.x, read_wide c.ranges.y) refl
+    rw (c.short_of.ensures, to_z-of_z (overflow_add-x c.before), to_z-of_z c.ranges.x, to_z-of_z c.ranges.y, read_wide c.ranges.x, read_wide c.ranges.y) refl

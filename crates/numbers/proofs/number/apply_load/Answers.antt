@@ -14,9 +14,8 @@ enum_told-1 c = search rules
 pub returns-in-Some : goal.returns-in-Some
 unfolding bind
 returns-in-Some c =
-    let x = c.x-1.given in
-    let p = read_back x.0.0 c.known_told-1.given.0.1 in
-    rw x.1 (simp p at c.load.ensures)
+    let p = read_back c.in-Some.a c.in-Some.known_told-1-own.given.0.1 in
+    rw c.in-Some.is (simp p at c.load.ensures)
 
 pub returns-in-None : goal.returns-in-None
 unfolding bind

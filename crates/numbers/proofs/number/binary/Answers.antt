@@ -19,5 +19,5 @@ returns-in-2 c = let f = c.ranges in rw c.in-2.is (simp (to_z-of_z f.x, to_z-of_
 pub returns-in_default : goal.returns-in_default
 returns-in_default c =
     let f = c.ranges in
-    let other = c.in_default.rest in
+    let other = c.in_default.in_default-own.rest in
     rw (ne_eqb _ 0 other.0.0.1, ne_eqb _ 1 other.0.1, ne_eqb _ 2 other.1) (simp (to_z-of_z f.x, to_z-of_z f.y) at c.remainder.ensures)

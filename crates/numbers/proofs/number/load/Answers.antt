@@ -19,7 +19,7 @@ returns-then-i-lt16 c =
     let f = c.ranges.depth in
     let t = c.if-depth-lt0.false in
     let low = simp (read_natural f t) at c.if-i-lt16.true in
-    rw (read_back c.wide.result c.wide.type-inv, c.wide.ensures, read_natural f t, natural f t, load_at _ low) refl
+    rw (read_back c.wide.result c.wide.type_inv, c.wide.ensures, read_natural f t, natural f t, load_at _ low) refl
 
 pub returns-else-i-lt16 : goal.returns-else-i-lt16
 returns-else-i-lt16 c =

@@ -14,11 +14,9 @@ enum_told-1 c = search rules
 pub returns-in-Some-y : goal.returns-in-Some-y
 unfolding bind
 returns-in-Some-y c =
-    let x = c.x-1.given in
-    let y = c.y-1.given in
-    let p = read_back x.0.0 c.known_told-1.given.0.1 in
-    let q = read_back y.0.0 c.known_told-in-Some-1.given.0.1 in
-    rw (x.1, y.1) (simp (p, q) at c.binary.ensures)
+    let p = read_back c.in-Some.a c.in-Some.known_told-1-own.given.0.1 in
+    let q = read_back c.in-Some-y.b c.in-Some-y.known_told-in-Some-1-own.given.0.1 in
+    rw (c.in-Some.is, c.in-Some-y.is) (simp (p, q) at c.binary.ensures)
 
 pub returns-in-None-y : goal.returns-in-None-y
 unfolding bind

@@ -20,12 +20,12 @@ slice_bounds-newly_bound-end c = sym c.loop-i.invariant.1
 
 pub returns-then-not-newly_bound : goal.returns-then-not-newly_bound
 returns-then-not-newly_bound c =
-    plan_unfit _ _ _ _ _ c.loop-i.invariant.0 (omega arith) c.take-head.ensures c.in-Word.is c.element_of-e.result.sort c.element_of-e.ensures c.newly_bound.ensures (not-true _ c.if-not-newly_bound.true)
+    plan_unfit _ _ _ _ _ c.loop-i.invariant.0 (omega arith) c.take-head.ensures c.in-Word.is c.element_of-e.result.sort c.element_of-e.ensures c.newly_bound.ensures (c.if-not-newly_bound.true)
 
 pub loop-i-preserved : goal.loop-i-preserved
 loop-i-preserved c =
     let lp = c.loop-i in
-    (plan_turn _ _ _ _ _ lp.invariant.0 (omega arith) c.take-head.ensures c.in-Word.is c.element_of-e.result.sort c.element_of-e.ensures c.newly_bound.ensures (not-false _ c.if-not-newly_bound.false), c.newly_bound.auto.marks ∙ lp.invariant.1)
+    (plan_turn _ _ _ _ _ lp.invariant.0 (omega arith) c.take-head.ensures c.in-Word.is c.element_of-e.result.sort c.element_of-e.ensures c.newly_bound.ensures (c.if-not-newly_bound.false), c.newly_bound.auto.marks ∙ lp.invariant.1)
 
 pub slice_bounds-unbound-end : goal.slice_bounds-unbound-end
 slice_bounds-unbound-end c = sym c.loop-i.invariant.1

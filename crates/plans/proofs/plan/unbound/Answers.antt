@@ -8,10 +8,10 @@ pub loop-n-init : goal.loop-n-init
 loop-n-init c = bounded-start _ _
 
 pub returns-then-not-marks-n : goal.returns-then-not-marks-n
-returns-then-not-marks-n c = bounded-stop c.loop-n.invariant _ (omega arith) (not-true _ c.if-not-marks-n.true)
+returns-then-not-marks-n c = bounded-stop c.loop-n.invariant _ (omega arith) (c.if-not-marks-n.true)
 
 pub loop-n-preserved : goal.loop-n-preserved
-loop-n-preserved c = bounded_turn c.loop-n.invariant (omega arith) (not-false _ c.if-not-marks-n.false)
+loop-n-preserved c = bounded_turn c.loop-n.invariant (omega arith) (c.if-not-marks-n.false)
 
 pub returns : goal.returns
 returns c = search faults

@@ -8,10 +8,10 @@ use Rattle.run.proofs.Calling.{run_unstarted, run_runnable, run_inside, run_ende
 use Rattle.run.proofs.run.run.Goals as goal
 
 full : (c : goal.After-begin-index) → length c.begin-index.result.places_at ≡ 64
-full c = sym (length-map c.begin-index.result.places_at _) ∙ c.begin-index.type-inv.1.1.1.1.1.0.1.0.1
+full c = sym (length-map c.begin-index.result.places_at _) ∙ c.begin-index.type_inv.1.1.1.1.1.0.1.0.1
 
 long : (c : goal.After-begin-index) → length c.begin-index.result.transitions_at ≡ 64
-long c = sym (length-map c.begin-index.result.transitions_at _) ∙ c.begin-index.type-inv.1.1.1.1.1.1.1.0.1.0.1
+long c = sym (length-map c.begin-index.result.transitions_at _) ∙ c.begin-index.type_inv.1.1.1.1.1.1.1.0.1.0.1
 
 pub slice_bounds-places_at-end : goal.slice_bounds-places_at-end
 slice_bounds-places_at-end c = let w = full (goal.at.slice_bounds-places_at-end c).After-begin-index in let e = c.at_most-places.ensures in omega arith

@@ -8,13 +8,13 @@ use Rattle.starts.proofs.Starting.{start_unaccepted, start_fits, start-unknown, 
 use Rattle.starts.proofs.begin.begin.Goals as goal
 
 full : (c : goal.After-accept_net-index) → length c.accept_net-index.result.places_at ≡ 64
-full c = sym (length-map c.accept_net-index.result.places_at _) ∙ c.accept_net-index.type-inv.1.1.1.1.1.0.1.0.1
+full c = sym (length-map c.accept_net-index.result.places_at _) ∙ c.accept_net-index.type_inv.1.1.1.1.1.0.1.0.1
 
 wide : (c : goal.After-accept_net-index) → length c.accept_net-index.result.widths ≡ 64
-wide c = sym (length-map c.accept_net-index.result.widths _) ∙ c.accept_net-index.type-inv.1.1.1.1.1.1.0.1.0.1
+wide c = sym (length-map c.accept_net-index.result.widths _) ∙ c.accept_net-index.type_inv.1.1.1.1.1.1.0.1.0.1
 
 long : (c : goal.After-accept_net-index) → length c.accept_net-index.result.transitions_at ≡ 64
-long c = sym (length-map c.accept_net-index.result.transitions_at _) ∙ c.accept_net-index.type-inv.1.1.1.1.1.1.1.0.1.0.1
+long c = sym (length-map c.accept_net-index.result.transitions_at _) ∙ c.accept_net-index.type_inv.1.1.1.1.1.1.1.0.1.0.1
 
 pub returns-in_default : goal.returns-in_default
 returns-in_default c =
