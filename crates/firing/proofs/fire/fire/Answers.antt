@@ -80,7 +80,7 @@ fire_arcs-requires c =
     let j = length-take-le r.inputs own (omega arith) in
     let d = length-drop 8 own in
     let k = length-take-le (8 + r.outputs - 8) (drop 8 own) (omega arith) in
-    (P.fits, (begins-full (goal.at.fire_arcs-requires c).After-prepare-s, ((omega arith, omega arith), fireable-lent P c.args.binding.now c.read_binding.result c.read_binding.ensures c.in-Next-read_binding.is (16 + r.conjuncts - 16) (8 + r.outputs - 8) (omega arith) (omega arith))))
+    record { places_fit = P.fits; begins_len = begins-full (goal.at.fire_arcs-requires c).After-prepare-s; inputs_len_bound = (omega arith, omega arith); fireable_at = fireable-lent P c.args.binding.now c.read_binding.result c.read_binding.ensures c.in-Next-read_binding.is (16 + r.conjuncts - 16) (8 + r.outputs - 8) (omega arith) (omega arith) }
 
 pub returns-in-Refused : goal.returns-in-Refused
 returns-in-Refused c =

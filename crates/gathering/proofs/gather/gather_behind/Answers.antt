@@ -3,7 +3,7 @@ use Rattle.gathering.proofs.Gathering.{gathering, gathering_start, gathering_end
 use Rattle.gathering.proofs.gather.gather_behind.Goals as goal
 
 pub returns-then-ats-start : goal.returns-then-ats-start
-returns-then-ats-start c = let p = c.requires in (gathering_end (gathering_start p.known p.keys_len.0 p.keys_len.1) p.ats_len_bound c.if-ats-start.true, keeps_all _ _ _)
+returns-then-ats-start c = let p = c.requires in record { gathered = gathering_end (gathering_start p.known p.keys_len.0 p.keys_len.1) p.ats_len_bound c.if-ats-start.true; keeps = keeps_all _ _ _ }
 
 pub gather-requires : goal.gather-requires
 gather-requires c = search gathering

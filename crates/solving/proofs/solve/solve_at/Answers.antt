@@ -47,9 +47,8 @@ returns-in-Value c =
     let a = c.args in
     let n = c.requires.slots_len.0 in
     let l : a.variables ≤ length a.slots.now = omega arith in
-    let z = c.z-1.given in
-    let p = read_back z.0.0 c.known_told-in-Value-1.given.0.1 in
-    tried_same (simp p at c.bind_lone.ensures) (left-value c.requires.has_conjunct a.slots.now (ranges_from a.net.now a.variables a.ranges) (rw c.in-Nothing.is at c.lone_at.ensures) l (all_slots a.net.now a.slots.now a.variables (a.at + 1) n c.evaluate.result c.evaluate.ensures) z.1 refl)
+    let p = read_back c.in-Value.z c.in-Value.known_told-in-Value-1-own.given.0.1 in
+    tried_same (simp p at c.bind_lone.ensures) (left-value c.requires.has_conjunct a.slots.now (ranges_from a.net.now a.variables a.ranges) (rw c.in-Nothing.is at c.lone_at.ensures) l (all_slots a.net.now a.slots.now a.variables (a.at + 1) n c.evaluate.result c.evaluate.ensures) c.in-Value.is refl)
 
 -- it has none
 pub returns-in-NoValue : goal.returns-in-NoValue

@@ -62,7 +62,7 @@ is_enabled-requires c =
     let b = c.read_binding in
     let bs = c.args.binding.now in
     let e = c.in-Next-read_binding.is in
-    (P.fits, (begins-full (goal.at.is_enabled-requires c).After-prepare-s, (omega arith, (test_conjuncts P bs b.result b.ensures e (16 + c.prepare-s.result.transition.conjuncts - 16) (omega arith), test_inputs P bs b.result b.ensures e))))
+    record { places_fit = P.fits; begins_len = begins-full (goal.at.is_enabled-requires c).After-prepare-s; inputs_len_bound = omega arith; every = test_conjuncts P bs b.result b.ensures e (16 + c.prepare-s.result.transition.conjuncts - 16) (omega arith); every_2 = test_inputs P bs b.result b.ensures e }
 
 pub returns-then-is_enabled : goal.returns-then-is_enabled
 returns-then-is_enabled c =
