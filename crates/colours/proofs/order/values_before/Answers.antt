@@ -1,4 +1,6 @@
 -- `colours::order::values_before` meets its contract: the loop of `Comparing` over words and words.
+use mathlib.Core.Bool.{not}
+use mathlib.Core.Path.{ap}
 use Prim.Native.Nat.{◌-◌}
 use Rattle.colours.proofs.Comparing.{WordsLeft, words-start, words_more, words_turn, comparing}
 use native.Mathlib.Omega.{arith}
@@ -13,11 +15,11 @@ returns-then-less c = search comparing
 
 pub returns-then-not-equal : goal.returns-then-not-equal
 returns-then-not-equal c =
-    words_more c.loop-i.invariant c.loop-i-test.true (search rules) (search rules) c.less.ensures c.if-less.false c.equal.ensures c.if-not-equal.true
+    words_more c.loop-i.invariant c.loop-i-test.true (search rules) (search rules) c.less.ensures c.if-less.false c.equal.ensures (ap not c.if-not-equal.true)
 
 pub loop-i-preserved : goal.loop-i-preserved
 loop-i-preserved c =
-    words_turn c.loop-i.invariant c.loop-i-test.true (search rules) (search rules) c.less.ensures c.if-less.false c.equal.ensures c.if-not-equal.false
+    words_turn c.loop-i.invariant c.loop-i-test.true (search rules) (search rules) c.less.ensures c.if-less.false c.equal.ensures (ap not c.if-not-equal.false)
 
 pub returns : goal.returns
 returns c = search comparing

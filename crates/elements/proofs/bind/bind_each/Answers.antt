@@ -7,6 +7,7 @@ use lib.ListN.{length}
 use borrow.Author.Rules.{rules}
 use Rattle.elements.proofs.Binding.{Binding, binding-start, noted-new, noted-before, binding_turn, binding-stop, binding}
 use Rattle.elements.proofs.bind.bind_each.Goals as goal
+use Rattle.elements.proofs.bind.bind_each.Goals.{then-bind_lone, else-bind_lone}
 
 pub loop-i-init : goal.loop-i-init
 loop-i-init c = (binding-start _ _ _ _ _, refl)
@@ -21,12 +22,12 @@ shape_of-marks-in-Refused c =
 pub returns-in-Refused : goal.returns-in-Refused
 returns-in-Refused c =
     let lp = c.loop-i in
-    binding-stop lp.invariant.0 (omega arith) c.bind_lone.ensures (⊎_elim (λ w. noted-new _ w.0.taken w.1) (λ w. noted-before w.0.left w.1) c.if-bind_lone.branch) c.skip_expression.ensures.0 c.in-Refused.is
+    binding-stop lp.invariant.0 (omega arith) c.bind_lone.ensures (elim c.if-bind_lone.branch [ then-bind_lone w ↦ noted-new _ w.if-bind_lone.true w.some-is | else-bind_lone w ↦ noted-before w.if-bind_lone.false w.some-is ]) c.skip_expression.ensures.0 c.in-Refused.is
 
 pub loop-i-preserved : goal.loop-i-preserved
 loop-i-preserved c =
     let lp = c.loop-i in
-    (binding_turn lp.invariant.0 (omega arith) c.bind_lone.ensures (⊎_elim (λ w. noted-new _ w.0.taken w.1) (λ w. noted-before w.0.left w.1) c.if-bind_lone.branch) c.skip_expression.ensures.0 c.in-Next.is, c.bind_lone.auto.marks ∙ lp.invariant.1)
+    (binding_turn lp.invariant.0 (omega arith) c.bind_lone.ensures (elim c.if-bind_lone.branch [ then-bind_lone w ↦ noted-new _ w.if-bind_lone.true w.some-is | else-bind_lone w ↦ noted-before w.if-bind_lone.false w.some-is ]) c.skip_expression.ensures.0 c.in-Next.is, c.bind_lone.auto.marks ∙ lp.invariant.1)
 
 pub shape_of-marks : goal.shape_of-marks
 shape_of-marks c = c.loop-i.invariant.1

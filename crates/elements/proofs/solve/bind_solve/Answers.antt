@@ -23,7 +23,7 @@ pub overflow_add-at-in-Next-skip_expression-2 : goal.overflow_add-at-in-Next-ski
 overflow_add-at-in-Next-skip_expression-2 c = search solving
 
 pub bind_side-requires-in-Next-skip_expression : goal.bind_side-requires-in-Next-skip_expression
-bind_side-requires-in-Next-skip_expression c = (search solving, (search solving, search solving))
+bind_side-requires-in-Next-skip_expression c = record { marks_len = search solving; to_in_bounds = search solving; variables_bound = search solving }
 
 pub returns-else-bind_side : goal.returns-else-bind_side
 returns-else-bind_side c = search solving

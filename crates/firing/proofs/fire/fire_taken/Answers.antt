@@ -1,5 +1,6 @@
 -- `firing::fire::fire_taken` meets its contract: each return is a rule of `Firing`.
-use mathlib.Core.Path.{refl}
+use mathlib.Core.Bool.{not}
+use mathlib.Core.Path.{refl, ap}
 use native.Mathlib.Omega.{arith}
 use Rattle.gathering.proofs.Gathering.{known_nothing}
 use Rattle.occurrence.proofs.Covering.{keys_front, amounts_front}
@@ -11,7 +12,7 @@ pub gather-outs-requires : goal.gather-outs-requires
 gather-outs-requires c = let p = c.requires in (p.places_fit, (p.outputs_len_bound, ((refl, refl), (fireable-outputs p.taken_at.enabled.fireable, known_nothing _ _ _ _ _ _))))
 
 pub returns-then-not-outs : goal.returns-then-not-outs
-returns-then-not-outs c = record { fired = λ is arcs i. record { fired = λ gs e. record { fired = λ q. fired_14 q e i c.gather-outs.ensures.gathered c.args.next.now c.if-not-outs.true } } }
+returns-then-not-outs c = record { fired = λ is arcs i. record { fired = λ gs e. record { fired = λ q. fired_14 q e i c.gather-outs.ensures.gathered c.args.next.now (ap not c.if-not-outs.true) } } }
 
 pub slice_bounds-fire_keys-end : goal.slice_bounds-fire_keys-end
 slice_bounds-fire_keys-end c = keys_front c.requires.taken_at.gathered
@@ -36,10 +37,10 @@ fire_keys-requires c =
     let p = c.requires in
     let t = p.taken_at in
     let o = c.gather-outs.ensures.gathered in
-    fired_stepping t.enabled.fireable t.enabled.enabled t.gathered o c.if-not-outs.false (gathered-moves p.places_fit p.begins_len t.gathered o)
+    fired_stepping t.enabled.fireable t.enabled.enabled t.gathered o (ap not c.if-not-outs.false) (gathered-moves p.places_fit p.begins_len t.gathered o)
 
 pub returns : goal.returns
 returns c =
     let p = c.requires in
     let o = c.gather-outs.ensures.gathered in
-    record { fired = λ is arcs i. record { fired = λ gs e. record { fired = λ q. fired-step q e i o c.if-not-outs.false (gathered-moves p.places_fit p.begins_len i o) c.fire_keys.ensures } } }
+    record { fired = λ is arcs i. record { fired = λ gs e. record { fired = λ q. fired-step q e i o (ap not c.if-not-outs.false) (gathered-moves p.places_fit p.begins_len i o) c.fire_keys.ensures } } }

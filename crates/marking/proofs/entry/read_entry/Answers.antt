@@ -1,4 +1,6 @@
 -- `marking::entry::read_entry` meets its contract: the rules of `Entries`, one for each arm.
+use mathlib.Core.Bool.{not}
+use mathlib.Core.Path.{ap}
 use Rattle.net.proofs.Placed.{place_inside}
 use Rattle.marking.proofs.Entries.{token_in_lem, entering}
 use native.Mathlib.Omega.{arith}
@@ -50,7 +52,7 @@ pub overflow_add-at : goal.overflow_add-at
 overflow_add-at c = search entering
 
 pub overflow_add-from : goal.overflow_add-from
-overflow_add-from c = omega (arith, place_inside c.requires (token_in_lem c.in-Word.p c.fits_token.ensures c.if-not-fits_token.false))
+overflow_add-from c = omega (arith, place_inside c.requires (token_in_lem c.in-Word.p c.fits_token.ensures (ap not c.if-not-fits_token.false)))
 
 pub read_values-requires : goal.read_values-requires
 read_values-requires c = search entering

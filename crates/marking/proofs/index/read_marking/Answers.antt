@@ -1,5 +1,6 @@
 -- `marking::index::read_marking` meets its contract: the loop of `Rising`. The table that is lent keeps its length.
-use mathlib.Core.Path.{sym, ◌∙◌}
+use mathlib.Core.Bool.{not}
+use mathlib.Core.Path.{sym, ◌∙◌, ap}
 use Prim.Native.Nat.{◌-◌}
 use lib.ListN.{length, length-set}
 use lib.Seq.{get_or-set_same}
@@ -62,7 +63,7 @@ loop-at-preserved c =
     let ends = entry_ends c.loop-at.invariant c.loop-at-test.true c.read_entry.ensures c.in-Entry.is in
     let places = c.requires.places_fit.few in
     let inside = ends.2 in
-    marking_goes c.loop-at.invariant c.loop-at-test.true c.read_entry.ensures c.in-Entry.is c.rises.ensures c.if-not-rises.false c.begin_all.auto.begins (omega (arith, places-length c.args.net.now c.args.places.now)) c.begin_all.ensures
+    marking_goes c.loop-at.invariant c.loop-at-test.true c.read_entry.ensures c.in-Entry.is c.rises.ensures (ap not c.if-not-rises.false) c.begin_all.auto.begins (omega (arith, places-length c.args.net.now c.args.places.now)) c.begin_all.ensures
 
 pub shape_of-begins-in-Refused : goal.shape_of-begins-in-Refused
 shape_of-begins-in-Refused c = c.loop-at.invariant.long ∙ sym c.requires.begins_len

@@ -13,10 +13,10 @@ pub loop-i-init : goal.loop-i-init
 loop-i-init c = looking_start _ _
 
 pub returns-then-not-is_pick : goal.returns-then-not-is_pick
-returns-then-not-is_pick c = looking_found c.loop-i.invariant c.loop-i-test.true (ap not (sym c.is_pick.ensures) ∙ c.if-not-is_pick.true)
+returns-then-not-is_pick c = looking_found c.loop-i.invariant c.loop-i-test.true (ap not (sym c.is_pick.ensures) ∙ (ap not c.if-not-is_pick.true))
 
 pub loop-i-preserved : goal.loop-i-preserved
-loop-i-preserved c = looking_turn c.loop-i.invariant c.loop-i-test.true (ap not (sym c.is_pick.ensures) ∙ c.if-not-is_pick.false)
+loop-i-preserved c = looking_turn c.loop-i.invariant c.loop-i-test.true (ap not (sym c.is_pick.ensures) ∙ (ap not c.if-not-is_pick.false))
 
 pub returns : goal.returns
 returns c = looking_end c.loop-i.invariant c.loop-i-test.false

@@ -1,4 +1,6 @@
 -- `spares::spare::is_spared` meets its contract: an arc that passes all tests is spared, and none where one fails.
+use mathlib.Core.Bool.{not}
+use mathlib.Core.Path.{ap}
 use native.Mathlib.Omega.{arith}
 use borrow.Author.Rules.{rules}
 use Rattle.net.proofs.Standing.{arc-inside, place-there}
@@ -45,7 +47,7 @@ pub is_matched-requires : goal.is_matched-requires
 is_matched-requires c = let w = c.requires.within in let h = c.requires.k_in_bounds.0 in record { inside = w.plan; k_bound = c.requires.k_in_bounds.1 }
 
 pub returns : goal.returns
-returns c = spares_yes c.payload-place.ensures.0 c.payload-width.ensures.0 c.if-net-at-ne1879048193.false c.lone_words.ensures c.if-not-lone_words.false c.alone.ensures c.if-not-alone.false c.is_matched.ensures
+returns c = spares_yes c.payload-place.ensures.0 c.payload-width.ensures.0 c.if-net-at-ne1879048193.false c.lone_words.ensures (ap not c.if-not-lone_words.false) c.alone.ensures (ap not c.if-not-alone.false) c.is_matched.ensures
 
 pub offset_bounds-inputs-k : goal.offset_bounds-inputs-k
 offset_bounds-inputs-k c = search sparing

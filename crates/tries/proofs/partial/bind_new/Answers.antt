@@ -1,4 +1,6 @@
 -- `tries::partial::bind_new` meets its contract: each return is a rule of `Binding`.
+use mathlib.Core.Bool.{not}
+use mathlib.Core.Path.{ap}
 use mir.Facts.{to_z-of_z}
 use borrow.Author.Rules.{rules}
 use Rattle.tries.proofs.Slots.{tried_not, tried_on}
@@ -13,9 +15,9 @@ returns-then-variables-n c =
 pub returns-then-not-in_range : goal.returns-then-not-in_range
 returns-then-not-in_range c =
     let a = c.args in
-    tried_not (bind-outside a.net.now a.variables a.ranges a.slots.now a.n a.z c.if-variables-n.false (simp (to_z-of_z c.ranges.z) at c.in_range.ensures) c.if-not-in_range.true)
+    tried_not (bind-outside a.net.now a.variables a.ranges a.slots.now a.n a.z c.if-variables-n.false (simp (to_z-of_z c.ranges.z) at c.in_range.ensures) (ap not c.if-not-in_range.true))
 
 pub returns : goal.returns
 returns c =
     let a = c.args in
-    tried_on (bind-inside a.net.now a.variables a.ranges a.slots.now a.n a.z c.if-variables-n.false (simp (to_z-of_z c.ranges.z) at c.in_range.ensures) c.if-not-in_range.false (simp (to_z-of_z c.ranges.z) at c.value_word.ensures))
+    tried_on (bind-inside a.net.now a.variables a.ranges a.slots.now a.n a.z c.if-variables-n.false (simp (to_z-of_z c.ranges.z) at c.in_range.ensures) (ap not c.if-not-in_range.false) (simp (to_z-of_z c.ranges.z) at c.value_word.ensures))
