@@ -63,7 +63,7 @@ fn value_in(a: Outcome) -> Number
 }
 
 // Evaluates the expression that stands at a position.
-#[cycle(evaluate_load_evaluate_operand_evaluate_two_evaluate_within)]
+#[cycle(evaluation)]
 fn evaluate_within(words: &[u32], binding: &[u32], at: usize) -> Outcome
     requires { Stands words.now (length binding.now) at }
     ensures { IsOutcome words.now binding.now at result }
@@ -100,7 +100,7 @@ fn evaluate_within(words: &[u32], binding: &[u32], at: usize) -> Outcome
 }
 
 // The same of an operand. A constant or a lone variable, the common case, is told from its word: so short a path goes into the function that operates.
-#[cycle(evaluate_load_evaluate_operand_evaluate_two_evaluate_within)]
+#[cycle(evaluation)]
 fn evaluate_operand(words: &[u32], binding: &[u32], at: usize) -> Outcome
     requires { Stands words.now (length binding.now) at }
     ensures { IsOutcome words.now binding.now at result }
@@ -120,7 +120,7 @@ fn evaluate_operand(words: &[u32], binding: &[u32], at: usize) -> Outcome
 }
 
 // The operator of a code on the two expressions that stand at a position.
-#[cycle(evaluate_load_evaluate_operand_evaluate_two_evaluate_within)]
+#[cycle(evaluation)]
 fn evaluate_two(words: &[u32], binding: &[u32], code: u32, at: usize) -> Outcome
     requires { StandTwo words.now (length binding.now) at }
     ensures { IsTwo words.now binding.now code at result }
@@ -131,7 +131,7 @@ fn evaluate_two(words: &[u32], binding: &[u32], code: u32, at: usize) -> Outcome
 }
 
 // The load at the depth that the expression at a position tells.
-#[cycle(evaluate_load_evaluate_operand_evaluate_two_evaluate_within)]
+#[cycle(evaluation)]
 fn evaluate_load(words: &[u32], binding: &[u32], at: usize) -> Outcome
     requires { Stands words.now (length binding.now) at }
     ensures { IsLoaded words.now binding.now at result }
