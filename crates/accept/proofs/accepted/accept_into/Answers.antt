@@ -14,18 +14,6 @@ use Rattle.net.proofs.Nets.{net-refused, net-stops, net-ends, few-places, few-tr
 use Rattle.accept.proofs.Checking.{unread_extent, settled-net}
 use Rattle.accept.proofs.accepted.accept_into.Goals as goal
 
-full : (c : goal.After-read_places-end) → length c.read_places-end.new.begins ≡ 64
-full c = search rules
-
-wide : (c : goal.After-read_places-end) → length c.read_places-end.new.widths ≡ 64
-wide c = omega arith
-
-lent : (c : goal.After-read_places-end) → c.in-Word.w / 256 % 256 ≤ length c.read_places-end.new.widths
-lent c =
-    let f = few-places _ _ c.take-head.ensures c.in-Word.is in
-    let w = wide c in
-    omega arith
-
 nothing : NetOutline
 nothing = record { places = []; transitions = [] }
 
@@ -37,7 +25,7 @@ returns-in_default c =
 pub read_places-end-requires : goal.read_places-end-requires
 read_places-end-requires c =
     let f = few-places _ _ c.take-head.ensures c.in-Word.is in
-    (omega arith, omega arith)
+    record { n_in_bounds = omega arith; n_in_bounds_2 = omega arith }
 
 pub returns-in_default-end : goal.returns-in_default-end
 returns-in_default-end c =
@@ -45,18 +33,26 @@ returns-in_default-end c =
     unread_extent _ _ _ _ _ _ _ c.unread-in_default-end.result (sym (net-stops _ _ c.take-head.ensures c.in-Word.is _ c.read_places-end.ensures nothing d) ∙ ap (λ (k : Skipped). up_to k nothing) d) (c.unread-in_default-end.ensures ∙ d)
 
 pub slice_bounds-read_plans-end : goal.slice_bounds-read_plans-end
-slice_bounds-read_plans-end c = lent (goal.at.slice_bounds-read_plans-end c).After-read_places-end
+slice_bounds-read_plans-end c =
+    let f = few-places _ _ c.take-head.ensures c.in-Word.is in
+    let w : length c.read_places-end.new.widths ≡ 64 = omega arith in
+    omega arith
 
 pub slice_bounds-read_plans-end-2 : goal.slice_bounds-read_plans-end-2
-slice_bounds-read_plans-end-2 c = sym (length-take-le _ _ (lent (goal.at.slice_bounds-read_plans-end-2 c).After-read_places-end))
+slice_bounds-read_plans-end-2 c =
+    let f = few-places _ _ c.take-head.ensures c.in-Word.is in
+    let w : length c.read_places-end.new.widths ≡ 64 = omega arith in
+    sym (length-take-le _ _ (omega arith))
 
 pub read_plans-plans-requires : goal.read_plans-plans-requires
 read_plans-plans-requires c =
     let f = few-transitions _ _ c.take-head.ensures c.in-Word.is in
-    (omega arith, search rules)
+    record { n_in_bounds = omega arith; in_bounds = search rules }
 
 pub returns : goal.returns
 returns c =
     let p = c.in-Word.w in
-    let read = net-ends _ _ c.take-head.ensures c.in-Word.is c.read_places-end.new.begins c.read_places-end.new.widths c.read_plans-plans.result.end _ c.read_places-end.ensures c.in-Next.is c.read_plans-plans.ensures.same (full (goal.at.returns c).After-read_places-end) (wide (goal.at.returns c).After-read_places-end) in
-    settled-net _ (record { end = c.read_plans-plans.result.end; places = p / 256 % 256; transitions = p % 256; places_at = c.read_places-end.new.begins; widths = c.read_places-end.new.widths; transitions_at = c.read_plans-plans.new.begins }) read (full (goal.at.returns c).After-read_places-end) (wide (goal.at.returns c).After-read_places-end) _ c.read_plans-plans.result.fault c.settled-end.result c.read_plans-plans.ensures.faults c.read_plans-plans.ensures.kept c.settled-end.ensures
+    let full : length c.read_places-end.new.begins ≡ 64 = search rules in
+    let wide : length c.read_places-end.new.widths ≡ 64 = omega arith in
+    let read = net-ends _ _ c.take-head.ensures c.in-Word.is c.read_places-end.new.begins c.read_places-end.new.widths c.read_plans-plans.result.end _ c.read_places-end.ensures c.in-Next.is c.read_plans-plans.ensures.same full wide in
+    settled-net _ (record { end = c.read_plans-plans.result.end; places = p / 256 % 256; transitions = p % 256; places_at = c.read_places-end.new.begins; widths = c.read_places-end.new.widths; transitions_at = c.read_plans-plans.new.begins }) read full wide _ c.read_plans-plans.result.fault c.settled-end.result c.read_plans-plans.ensures.faults c.read_plans-plans.ensures.kept c.settled-end.ensures

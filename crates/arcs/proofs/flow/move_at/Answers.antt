@@ -15,7 +15,10 @@ pack-colour-requires c =
     let a = c.requires.has_arc in
     let g = c.payload-place.ensures.0 in
     let e = c.payload-width.ensures.0 in
-    ((place-narrow a g c.requires.places_fit e, place-room c.requires.places_fit (place-there a g) e), behind-coefficient c.args.binding.now a c.coefficient_at.ensures c.in-Tokens.is g e)
+    record {
+      n_bound = (place-narrow a g c.requires.places_fit e, place-room c.requires.places_fit (place-there a g) e);
+      has_several = behind-coefficient c.args.binding.now a c.coefficient_at.ensures c.in-Tokens.is g e;
+    }
 
 pub offset_bounds-net-at : goal.offset_bounds-net-at
 offset_bounds-net-at c = search moving-arc

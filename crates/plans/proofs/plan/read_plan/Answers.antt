@@ -12,7 +12,7 @@ pub slice_bounds-ins-end : goal.slice_bounds-ins-end
 slice_bounds-ins-end c =
     let rp = c.read_parts-t in
     let a = c.args in
-    own-front rp.new.1.1.0 a.base (a.base + 32 - a.base) rp.result.inputs (omega arith) (search rules) rp.ensures.parts.few-inputs
+    own-front rp.new.table a.base (a.base + 32 - a.base) rp.result.inputs (omega arith) (search rules) rp.ensures.parts.few-inputs
 
 pub returns : goal.returns
 returns c =

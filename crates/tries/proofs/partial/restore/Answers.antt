@@ -7,6 +7,7 @@ use borrow.Author.Rules.{rules}
 use lib.ListN.{length, take}
 use Rattle.tries.proofs.Saving.{copy_where, copy_back}
 use Rattle.tries.proofs.partial.restore.Goals as goal
+use Rattle.tries.proofs.partial.restore.Goals.{then-slots-i, else-slots-i}
 
 pub loop-i-init : goal.loop-i-init
 loop-i-init c = let f = c.requires.0 in let m = c.at_most-many.ensures in (omega arith, omega arith, refl, refl)
@@ -19,7 +20,7 @@ loop-i-preserved c =
     let l = c.requires.1 in
     let k = c.loop-i-test.true in
     let n = c.requires.0 in
-    let turn = copy_where lp.slots c.args.saved.now lp.i lp.invariant.3 (omega arith) (omega arith) (⊎_elim (λ t. inl t.1) (λ t. inr (t.0.left, t.1)) c.if-slots-i.branch) in
+    let turn = copy_where lp.slots c.args.saved.now lp.i lp.invariant.3 (omega arith) (omega arith) (elim c.if-slots-i.branch [ then-slots-i w ↦ inl w.slots-is | else-slots-i w ↦ inr (w.if-slots-i.false, w.slots-is) ]) in
     (m, omega arith, turn.0 ∙ s, turn.1)
 
 pub shape_of-slots : goal.shape_of-slots

@@ -7,6 +7,7 @@ use borrow.Author.Rules.{rules}
 use lib.ListN.{length}
 use Rattle.tries.proofs.Saving.{Keeping, keeping_start, keeping_turn, copy_kept}
 use Rattle.tries.proofs.partial.save.Goals as goal
+use Rattle.tries.proofs.partial.save.Goals.{then-w-ne0, else-w-ne0}
 
 pub loop-n-init : goal.loop-n-init
 loop-n-init c = let f = c.requires.0 in let m = c.at_most-many.ensures in (omega arith, omega arith, keeping_start _ _ c.requires.1)
@@ -17,7 +18,7 @@ loop-n-preserved c =
     let m = lp.invariant.0 in
     let k = c.loop-n-test.true in
     let l = c.requires.0 in
-    (m, omega arith, keeping_turn lp.saved c.args.slots.now lp.n lp.invariant.2 (omega arith) (omega arith) (⊎_elim (λ t. inl t.1) (λ t. inr (t.0.left, t.1)) c.if-w-ne0.branch))
+    (m, omega arith, keeping_turn lp.saved c.args.slots.now lp.n lp.invariant.2 (omega arith) (omega arith) (elim c.if-w-ne0.branch [ then-w-ne0 w ↦ inl w.saved-is | else-w-ne0 w ↦ inr (w.if-w-ne0.false, w.saved-is) ]))
 
 pub returns : goal.returns
 returns c =
