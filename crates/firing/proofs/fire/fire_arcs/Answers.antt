@@ -6,7 +6,7 @@ use borrow.Author.Rules.{rules}
 use Rattle.firing.proofs.fire.fire_arcs.Goals as goal
 
 pub taken-ins-requires : goal.taken-ins-requires
-taken-ins-requires c = let p = c.requires in let q = p.fireable_at in (p.places_fit, (p.begins_len, (p.inputs_len_bound.0, ((refl, refl), (fireable-guard q, fireable-inputs q)))))
+taken-ins-requires c = let p = c.requires in let q = p.fireable_at in record { places_fit = p.places_fit; begins_len = p.begins_len; inputs_len_bound = p.inputs_len_bound.0; keys_len = (refl, refl); every = fireable-guard q; every_2 = fireable-inputs q }
 
 pub returns-then-not-ins : goal.returns-then-not-ins
 returns-then-not-ins c = record { fired = λ q. fired_13 q c.taken-ins.ensures.enabled c.args.next.now (ap not c.if-not-ins.true) }

@@ -6,7 +6,7 @@ use borrow.Author.Rules.{rules}
 use Rattle.firing.proofs.fire.fire_enabled.Goals as goal
 
 pub gather-ins-requires : goal.gather-ins-requires
-gather-ins-requires c = let p = c.requires in (p.places_fit, (p.inputs_len_bound.0, ((refl, refl), (fireable-inputs p.enabled_at.fireable, known_nothing _ _ _ _ _ _))))
+gather-ins-requires c = let p = c.requires in record { places_fit = p.places_fit; ats_len_bound = p.inputs_len_bound.0; keys_len = (refl, refl); every = fireable-inputs p.enabled_at.fireable; known = known_nothing _ _ _ _ _ _ }
 
 pub slice_bounds-fire_taken-end : goal.slice_bounds-fire_taken-end
 slice_bounds-fire_taken-end c = sym c.gather-ins.ensures.gathered.keys_full

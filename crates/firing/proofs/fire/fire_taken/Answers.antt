@@ -9,7 +9,7 @@ use borrow.Author.Rules.{rules}
 use Rattle.firing.proofs.fire.fire_taken.Goals as goal
 
 pub gather-outs-requires : goal.gather-outs-requires
-gather-outs-requires c = let p = c.requires in (p.places_fit, (p.outputs_len_bound, ((refl, refl), (fireable-outputs p.taken_at.enabled.fireable, known_nothing _ _ _ _ _ _))))
+gather-outs-requires c = let p = c.requires in record { places_fit = p.places_fit; ats_len_bound = p.outputs_len_bound; keys_len = (refl, refl); every = fireable-outputs p.taken_at.enabled.fireable; known = known_nothing _ _ _ _ _ _ }
 
 pub returns-then-not-outs : goal.returns-then-not-outs
 returns-then-not-outs c = record { fired = λ is arcs i. record { fired = λ gs e. record { fired = λ q. fired_14 q e i c.gather-outs.ensures.gathered c.args.next.now (ap not c.if-not-outs.true) } } }

@@ -8,7 +8,7 @@ use Rattle.plan_search.proofs.Sparing.{all_within}
 use Rattle.menus.proofs.menu.list_once.Goals as goal
 
 pub leave_out-n-requires : goal.leave_out-n-requires
-leave_out-n-requires c = let W = c.requires in (W.fits, (all_within W, (few-inputs W, refl)))
+leave_out-n-requires c = let W = c.requires in record { places_fit = W.fits; within = all_within W; inputs_len_bound = (few-inputs W, refl) }
 
 pub slice_bounds-tested-end : goal.slice_bounds-tested-end
 slice_bounds-tested-end c = let f = few-inputs c.requires in let n = c.leave_out-n.ensures.few in let k = c.leave_out-n.ensures.full in omega arith

@@ -14,7 +14,7 @@ pub loop-i-preserved-then-repeats : goal.loop-i-preserved-then-repeats
 loop-i-preserved-then-repeats c = covering_again c.loop-i.invariant c.loop-i-test.true c.requires.keys_len_bound.1 (sym c.repeats.ensures ∙ c.if-repeats.true)
 
 pub spot_of-spot-requires : goal.spot_of-spot-requires
-spot_of-spot-requires c = let p = c.requires in (p.places_fit, (p.begins_len, fits_in c.args.keys.now _ p.every c.loop-i-test.true))
+spot_of-spot-requires c = let p = c.requires in record { places_fit = p.places_fit; begins_len = p.begins_len; key_fits = fits_in c.args.keys.now _ p.every c.loop-i-test.true }
 
 pub total_of-requires : goal.total_of-requires
 total_of-requires c = c.requires.keys_len_bound

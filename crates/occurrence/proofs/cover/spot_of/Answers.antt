@@ -3,7 +3,7 @@ use native.Mathlib.Omega.{arith}
 use Rattle.occurrence.proofs.cover.spot_of.Goals as goal
 
 pub width_of-width-requires : goal.width_of-width-requires
-width_of-width-requires c = let p = c.requires in (p.places_fit, p.key_fits.there)
+width_of-width-requires c = let p = c.requires in record { places_fit = p.places_fit; key_in_bounds = p.key_fits.there }
 
 pub find-requires : goal.find-requires
 find-requires c =

@@ -12,7 +12,7 @@ pub returns-then-not-guard_passes : goal.returns-then-not-guard_passes
 returns-then-not-guard_passes c = search enabling
 
 pub gather_behind-all-requires : goal.gather_behind-all-requires
-gather_behind-all-requires c = (search enabling, (search enabling, ((search enabling, search enabling), (search enabling, search enabling))))
+gather_behind-all-requires c = record { places_fit = search enabling; ats_len_bound = search enabling; keys_len = (search enabling, search enabling); every = search enabling; known = search enabling }
 
 pub returns-then-not-all : goal.returns-then-not-all
 returns-then-not-all c = search enabling

@@ -17,7 +17,7 @@ pub returns-then-not-guard_holds : goal.returns-then-not-guard_holds
 returns-then-not-guard_holds c = search enabling
 
 pub gather-all-requires : goal.gather-all-requires
-gather-all-requires c = (search enabling, (search enabling, ((search enabling, search enabling), (search enabling, search enabling))))
+gather-all-requires c = record { places_fit = search enabling; ats_len_bound = search enabling; keys_len = (search enabling, search enabling); every = search enabling; known = search enabling }
 
 pub returns-then-not-all : goal.returns-then-not-all
 returns-then-not-all c = search enabling

@@ -50,7 +50,7 @@ write_key-at-requires c =
     let r = writing_room c.requires c.loop-i.invariant c.loop-i-test.true in
     let l = c.loop-i.invariant.done.long in
     let k = c.copy_words.auto.next in
-    (w.fits, ((w.tabled.there _ h, w.tabled.small _ h), omega arith))
+    record { places_fit = w.fits; key_in_bounds = (w.tabled.there _ h, w.tabled.small _ h); count_in_bounds = omega arith }
 
 pub offset_bounds-olds-i : goal.offset_bounds-olds-i
 offset_bounds-olds-i c = let f = c.requires.tabled.few in let h = c.loop-i-test.true in omega arith

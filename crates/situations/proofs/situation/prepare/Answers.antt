@@ -29,7 +29,7 @@ pub slice_bounds-accept_into-end-3 : goal.slice_bounds-accept_into-end-3
 slice_bounds-accept_into-end-3 c = sym (length-take-le 64 c.args.begins.now (sixty-four (goal.at.slice_bounds-accept_into-end-3 c).Start))
 
 pub accept_into-extent-requires : goal.accept_into-extent-requires
-accept_into-extent-requires c = (search rules, (search rules, (length-take-le 64 c.args.begins.now (sixty-four (goal.at.accept_into-extent-requires c).Start), search rules)))
+accept_into-extent-requires c = record { places_at_len = search rules; widths_len = search rules; transitions_at_len = length-take-le 64 c.args.begins.now (sixty-four (goal.at.accept_into-extent-requires c).Start); in_bounds = search rules }
 
 pub returns-in_default : goal.returns-in_default
 returns-in_default c =
@@ -70,7 +70,7 @@ slice_bounds-read_marking-end-2 c =
 pub read_marking-marking_end-requires : goal.read_marking-marking_end-requires
 read_marking-marking_end-requires c =
     let a = c.args in
-    (places-fit a.net.now a.marking.now a.transition c.accept_into-extent.result c.accept_into-extent.ensures c.in-Next.is (full (goal.at.read_marking-marking_end-requires c).After-accept_into-extent) (wide (goal.at.read_marking-marking_end-requires c).After-accept_into-extent) (long (goal.at.read_marking-marking_end-requires c).After-accept_into-extent) c.at_most.ensures c.at_most-places.ensures, omega (arith, length-append c.accept_into-extent.new.transitions_at (drop 64 a.begins.now), length-drop 64 a.begins.now, long (goal.at.read_marking-marking_end-requires c).After-accept_into-extent, c.requires.2))
+    record { places_fit = places-fit a.net.now a.marking.now a.transition c.accept_into-extent.result c.accept_into-extent.ensures c.in-Next.is (full (goal.at.read_marking-marking_end-requires c).After-accept_into-extent) (wide (goal.at.read_marking-marking_end-requires c).After-accept_into-extent) (long (goal.at.read_marking-marking_end-requires c).After-accept_into-extent) c.at_most.ensures c.at_most-places.ensures; begins_len = omega (arith, length-append c.accept_into-extent.new.transitions_at (drop 64 a.begins.now), length-drop 64 a.begins.now, long (goal.at.read_marking-marking_end-requires c).After-accept_into-extent, c.requires.2) }
 
 pub returns : goal.returns
 returns c =
