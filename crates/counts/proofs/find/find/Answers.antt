@@ -24,31 +24,26 @@ floor-requires c =
     let m = rows_inside (get_or c.args.begins.now c.args.place 0) (get_or c.args.begins.now (c.args.place + 1) 0) (c.args.n + 1) (length c.args.words.now) c.if-to-from.false c.if-words-to.false in
     record { k_nonzero = omega arith; n_in_bounds = rw c.entries-k.ensures m; n_bound = c.requires.n_bound }
 
--- the entry that the bisection ends at lies inside the words
-inside : (c : goal.After-floor) → get_or c.args.begins.now c.args.place 0 + c.floor.result * (c.args.n + 1) + (c.args.n + 1) ≤ length c.args.words.now
-inside c =
-    floor_inside c.floor.ensures (get_or c.args.begins.now (c.args.place + 1) 0) c.entries-k.ensures c.if-to-from.false c.if-words-to.false
-
 pub overflow_mul-at : goal.overflow_mul-at
-overflow_mul-at c = omega (arith, inside c)
+overflow_mul-at c = omega (arith, (floor_inside c.floor.ensures (get_or c.args.begins.now (c.args.place + 1) 0) c.entries-k.ensures c.if-to-from.false c.if-words-to.false))
 
 pub overflow_add-at : goal.overflow_add-at
-overflow_add-at c = omega (arith, inside c)
+overflow_add-at c = omega (arith, (floor_inside c.floor.ensures (get_or c.args.begins.now (c.args.place + 1) 0) c.entries-k.ensures c.if-to-from.false c.if-words-to.false))
 
 pub overflow_add-at-2 : goal.overflow_add-at-2
-overflow_add-at-2 c = omega (arith, inside c)
+overflow_add-at-2 c = omega (arith, (floor_inside c.floor.ensures (get_or c.args.begins.now (c.args.place + 1) 0) c.entries-k.ensures c.if-to-from.false c.if-words-to.false))
 
 pub code_at-here-requires : goal.code_at-here-requires
-code_at-here-requires c = omega (arith, inside c)
+code_at-here-requires c = omega (arith, (floor_inside c.floor.ensures (get_or c.args.begins.now (c.args.place + 1) 0) c.entries-k.ensures c.if-to-from.false c.if-words-to.false))
 
 pub offset_bounds-words-at : goal.offset_bounds-words-at
-offset_bounds-words-at c = omega (arith, inside (goal.at.offset_bounds-words-at c).After-floor)
+offset_bounds-words-at c = omega (arith, (floor_inside c.floor.ensures (get_or c.args.begins.now (c.args.place + 1) 0) c.entries-k.ensures c.if-to-from.false c.if-words-to.false))
 
 pub bounds-words-at : goal.bounds-words-at
-bounds-words-at c = omega (arith, inside (goal.at.bounds-words-at c).After-floor)
+bounds-words-at c = omega (arith, (floor_inside c.floor.ensures (get_or c.args.begins.now (c.args.place + 1) 0) c.entries-k.ensures c.if-to-from.false c.if-words-to.false))
 
 pub overflow_add-result : goal.overflow_add-result
-overflow_add-result c = omega (arith, inside (goal.at.overflow_add-result c).After-floor)
+overflow_add-result c = omega (arith, (floor_inside c.floor.ensures (get_or c.args.begins.now (c.args.place + 1) 0) c.entries-k.ensures c.if-to-from.false c.if-words-to.false))
 
 pub returns-then-here-code : goal.returns-then-here-code
 returns-then-here-code c =

@@ -14,10 +14,7 @@ use Rattle.matches.specs.Met.{part_try, IsMet}
 use Rattle.tries.proofs.Slots.{tried_on, tried_back}
 use Rattle.matches.proofs.Agreeing.{Agreeing, held_start, held_stops, held_agrees, held_takes, held_same, takes_inside, held_ends}
 use Rattle.matches.proofs.colour.match_colour.Goals as goal
-
--- what the last component met
-met : (c : goal.After-meet_part) → IsMet c.args.variables c.loop-i.slots (part_try (ranges_from c.args.net.now c.args.variables c.args.ranges) (get_or c.args.parts.now c.loop-i.i 0) (signed (get_or c.args.marking.now (c.args.at + c.loop-i.i) 0 % 16384)) (partial_of c.args.variables c.loop-i.slots)) c.meet_part.result
-met c = subst (λ (z : ℤ). IsMet c.args.variables c.loop-i.slots (part_try (ranges_from c.args.net.now c.args.variables c.args.ranges) (get_or c.args.parts.now c.loop-i.i 0) z (partial_of c.args.variables c.loop-i.slots)) c.meet_part.result) c.signed.ensures.0 (simp (read_back c.signed.result c.signed.type_inv) at c.meet_part.ensures)
+use Rattle.matches.proofs.colour.match_colour.Goals.{in-Agrees, in-Takes}
 
 pub loop-i-init : goal.loop-i-init
 loop-i-init c = held_start _ _ _ _ _ _ _ c.requires.slots_len.0
@@ -39,16 +36,19 @@ shape_of-slots-in-Differs c = c.restore.auto.slots ∙ c.loop-i.invariant.full �
 
 pub returns-in-Differs : goal.returns-in-Differs
 returns-in-Differs c =
-    tried_back (held_stops c.loop-i.invariant (let l = c.requires.parts_len in let w = c.requires.width_bound.0 in omega arith) c.loop-i-test.true (met (goal.at.returns-in-Differs c).After-meet_part) c.in-Differs.is) (c.restore.ensures ∙ ap (λ (n : ℕ). take n c.args.saved.now) (c.loop-i.invariant.full ∙ sym c.requires.slots_len.0) ∙ c.requires.saved.front)
+    tried_back (held_stops c.loop-i.invariant (let l = c.requires.parts_len in let w = c.requires.width_bound.0 in omega arith) c.loop-i-test.true (subst (λ (z : ℤ). IsMet c.args.variables c.loop-i.slots (part_try (ranges_from c.args.net.now c.args.variables c.args.ranges) (get_or c.args.parts.now c.loop-i.i 0) z (partial_of c.args.variables c.loop-i.slots)) c.meet_part.result) c.signed.ensures.0 (simp (read_back c.signed.result c.signed.type_inv) at c.meet_part.ensures)) c.in-Differs.is) (c.restore.ensures ∙ ap (λ (n : ℕ). take n c.args.saved.now) (c.loop-i.invariant.full ∙ sym c.requires.slots_len.0) ∙ c.requires.saved.front)
 
 pub offset_bounds-slots-n : goal.offset_bounds-slots-n
-offset_bounds-slots-n c = let t = takes_inside c.loop-i.invariant (let l = c.requires.parts_len in let w = c.requires.width_bound.0 in omega arith) c.loop-i-test.true (met (goal.at.offset_bounds-slots-n c).After-meet_part) c.in-Takes.is in let f = c.loop-i.invariant.full in search rules
+offset_bounds-slots-n c = let t = takes_inside c.loop-i.invariant (let l = c.requires.parts_len in let w = c.requires.width_bound.0 in omega arith) c.loop-i-test.true (subst (λ (z : ℤ). IsMet c.args.variables c.loop-i.slots (part_try (ranges_from c.args.net.now c.args.variables c.args.ranges) (get_or c.args.parts.now c.loop-i.i 0) z (partial_of c.args.variables c.loop-i.slots)) c.meet_part.result) c.signed.ensures.0 (simp (read_back c.signed.result c.signed.type_inv) at c.meet_part.ensures)) c.in-Takes.is in let f = c.loop-i.invariant.full in search rules
 
 pub bounds-slots-n : goal.bounds-slots-n
-bounds-slots-n c = let t = takes_inside c.loop-i.invariant (let l = c.requires.parts_len in let w = c.requires.width_bound.0 in omega arith) c.loop-i-test.true (met (goal.at.bounds-slots-n c).After-meet_part) c.in-Takes.is in let f = c.loop-i.invariant.full in omega arith
+bounds-slots-n c = let t = takes_inside c.loop-i.invariant (let l = c.requires.parts_len in let w = c.requires.width_bound.0 in omega arith) c.loop-i-test.true (subst (λ (z : ℤ). IsMet c.args.variables c.loop-i.slots (part_try (ranges_from c.args.net.now c.args.variables c.args.ranges) (get_or c.args.parts.now c.loop-i.i 0) z (partial_of c.args.variables c.loop-i.slots)) c.meet_part.result) c.signed.ensures.0 (simp (read_back c.signed.result c.signed.type_inv) at c.meet_part.ensures)) c.in-Takes.is in let f = c.loop-i.invariant.full in omega arith
 
 pub loop-i-preserved : goal.loop-i-preserved
-loop-i-preserved c = ⊎_elim (λ l. held_same l.2 (held_agrees c.loop-i.invariant (let l = c.requires.parts_len in let w = c.requires.width_bound.0 in omega arith) c.loop-i-test.true (met (goal.at.loop-i-preserved c).After-meet_part) l.1.given.1)) (λ r. held_same r.3 (held_takes c.loop-i.invariant (let l = c.requires.parts_len in let w = c.requires.width_bound.0 in omega arith) c.loop-i-test.true (met (goal.at.loop-i-preserved c).After-meet_part) r.1.given.1)) c.match-meet_part.branch
+loop-i-preserved c =
+    elim c.match-meet_part.branch [
+      in-Agrees v ↦ held_same v.slots-is (held_agrees c.loop-i.invariant (let l = c.requires.parts_len in let w = c.requires.width_bound.0 in omega arith) c.loop-i-test.true (subst (λ (z : ℤ). IsMet c.args.variables c.loop-i.slots (part_try (ranges_from c.args.net.now c.args.variables c.args.ranges) (get_or c.args.parts.now c.loop-i.i 0) z (partial_of c.args.variables c.loop-i.slots)) c.meet_part.result) c.signed.ensures.0 (simp (read_back c.signed.result c.signed.type_inv) at c.meet_part.ensures)) v.in-Agrees.is)
+      | in-Takes v ↦ held_same v.slots-is (held_takes c.loop-i.invariant (let l = c.requires.parts_len in let w = c.requires.width_bound.0 in omega arith) c.loop-i-test.true (subst (λ (z : ℤ). IsMet c.args.variables c.loop-i.slots (part_try (ranges_from c.args.net.now c.args.variables c.args.ranges) (get_or c.args.parts.now c.loop-i.i 0) z (partial_of c.args.variables c.loop-i.slots)) c.meet_part.result) c.signed.ensures.0 (simp (read_back c.signed.result c.signed.type_inv) at c.meet_part.ensures)) v.in-Takes.is) ]
 
 pub shape_of-slots : goal.shape_of-slots
 shape_of-slots c = c.loop-i.invariant.full ∙ sym c.requires.slots_len.0

@@ -4,4 +4,4 @@ use borrow.Author.Rules.{rules}
 use Rattle.occurrence.proofs.enabled.is_enabled.Goals as goal
 
 pub taken-all-requires : goal.taken-all-requires
-taken-all-requires c = let p = c.requires in (p.places_fit, (p.begins_len, (p.inputs_len_bound, ((refl, refl), p.1.1.1))))
+taken-all-requires c = let p = c.requires in record { places_fit = p.places_fit; begins_len = p.begins_len; inputs_len_bound = p.inputs_len_bound; keys_len = (refl, refl); every = p.every; every_2 = p.every_2 }

@@ -8,7 +8,7 @@ pub covers-requires : goal.covers-requires
 covers-requires c = let p = c.requires in let x = c.gather-all.ensures.gathered in record { places_fit = p.places_fit; begins_len = p.begins_len; keys_len_bound = (keys_few x, keys_paired x); every = keys_fit x }
 
 pub returns : goal.returns
-returns c = taken-covered _ _ _ _ _ _ _ c.guard_holds.ensures (ap not c.if-not-guard_holds.false) c.gather-all.ensures.gathered (ap not c.if-not-all.false) c.covers.ensures (ap not c.if-not-covers.false)
+returns c = taken-covered _ _ _ _ _ _ _ c.guard_holds.ensures (ap not c.if-not-guard_holds.false) c.gather-all.ensures.gathered c.if-not-all.false c.covers.ensures (ap not c.if-not-covers.false)
 
 pub guard_holds-requires : goal.guard_holds-requires
 guard_holds-requires c = search enabling
