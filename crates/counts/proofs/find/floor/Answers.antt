@@ -24,21 +24,25 @@ loop-high-preserved c =
 pub returns : goal.returns
 returns c = bracket_end c.loop-high.invariant c.loop-high-test.false
 
--- the entry in the middle lies inside the words
-inside : (c : goal.In-loop-high) → c.args.from + (c.loop-high.low + (c.loop-high.high - c.loop-high.low) / 2) * (c.args.n + 1) + (c.args.n + 1) ≤ length c.args.words.now
-inside c = middle_room c.loop-high.invariant c.loop-high-test.true c.requires.n_in_bounds
-
 pub overflow_mul-mid : goal.overflow_mul-mid
-overflow_mul-mid c = omega (arith, inside c)
+overflow_mul-mid c =
+    let inside : c.args.from + (c.loop-high.low + (c.loop-high.high - c.loop-high.low) / 2) * (c.args.n + 1) + (c.args.n + 1) ≤ length c.args.words.now = middle_room c.loop-high.invariant c.loop-high-test.true c.requires.n_in_bounds in
+    omega (arith, inside)
 
 pub overflow_add-from : goal.overflow_add-from
-overflow_add-from c = omega (arith, inside c)
+overflow_add-from c =
+    let inside : c.args.from + (c.loop-high.low + (c.loop-high.high - c.loop-high.low) / 2) * (c.args.n + 1) + (c.args.n + 1) ≤ length c.args.words.now = middle_room c.loop-high.invariant c.loop-high-test.true c.requires.n_in_bounds in
+    omega (arith, inside)
 
 pub overflow_add-from-in-loop-high : goal.overflow_add-from-in-loop-high
-overflow_add-from-in-loop-high c = omega (arith, inside c)
+overflow_add-from-in-loop-high c =
+    let inside : c.args.from + (c.loop-high.low + (c.loop-high.high - c.loop-high.low) / 2) * (c.args.n + 1) + (c.args.n + 1) ≤ length c.args.words.now = middle_room c.loop-high.invariant c.loop-high-test.true c.requires.n_in_bounds in
+    omega (arith, inside)
 
 pub code_at-requires : goal.code_at-requires
-code_at-requires c = omega (arith, inside c)
+code_at-requires c =
+    let inside : c.args.from + (c.loop-high.low + (c.loop-high.high - c.loop-high.low) / 2) * (c.args.n + 1) + (c.args.n + 1) ≤ length c.args.words.now = middle_room c.loop-high.invariant c.loop-high-test.true c.requires.n_in_bounds in
+    omega (arith, inside)
 
 pub overflow_add-size : goal.overflow_add-size
 overflow_add-size c = omega arith

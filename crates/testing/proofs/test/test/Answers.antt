@@ -9,15 +9,6 @@ use Rattle.testing.proofs.Testing.{variables-inside, test_conjuncts, test_inputs
 use borrow.Author.Rules.{rules}
 use Rattle.testing.proofs.test.test.Goals as goal
 
-places-full : (c : goal.After-prepare-s) → length c.prepare-s.new.places_at ≡ 64
-places-full c = c.prepare-s.auto.places_at
-
-own-full : (c : goal.After-prepare-s) → length c.prepare-s.new.own ≡ 64
-own-full c = c.prepare-s.auto.own
-
-begins-full : (c : goal.After-prepare-s) → length c.prepare-s.new.begins ≡ 65
-begins-full c = c.prepare-s.auto.begins
-
 pub overflow_add-s : goal.overflow_add-s
 overflow_add-s c = let inside = variables-inside (c.prepare-s.ensures.prepares _ c.in-Next.is) in omega arith
 
@@ -26,14 +17,16 @@ read_binding-requires c = variables-inside (c.prepare-s.ensures.prepares _ c.in-
 
 pub slice_bounds-places_at-end : goal.slice_bounds-places_at-end
 slice_bounds-places_at-end c =
+    let places-full : length c.prepare-s.new.places_at ≡ 64 = c.prepare-s.auto.places_at in
     let few = (c.prepare-s.ensures.prepares _ c.in-Next.is).few in
-    let l = places-full (goal.at.slice_bounds-places_at-end c).After-prepare-s in
+    let l = places-full in
     omega arith
 
 pub slice_bounds-is_enabled-end : goal.slice_bounds-is_enabled-end
 slice_bounds-is_enabled-end c =
+    let places-full : length c.prepare-s.new.places_at ≡ 64 = c.prepare-s.auto.places_at in
     let few = (c.prepare-s.ensures.prepares _ c.in-Next.is).few in
-    let l = places-full (goal.at.slice_bounds-is_enabled-end c).After-prepare-s in
+    let l = places-full in
     sym (length-take-le _ _ (omega arith))
 
 pub overflow_add-conjuncts : goal.overflow_add-conjuncts
@@ -43,26 +36,30 @@ overflow_add-conjuncts c =
 
 pub slice_bounds-is_enabled-end-in-Next-read_binding : goal.slice_bounds-is_enabled-end-in-Next-read_binding
 slice_bounds-is_enabled-end-in-Next-read_binding c =
+    let own-full : length c.prepare-s.new.own ≡ 64 = c.prepare-s.auto.own in
     let few = (c.prepare-s.ensures.prepares _ c.in-Next.is).few-conjuncts in
-    let l = own-full (goal.at.slice_bounds-is_enabled-end-in-Next-read_binding c).After-prepare-s in
+    let l = own-full in
     omega arith
 
 pub slice_bounds-is_enabled-end-in-Next-read_binding-2 : goal.slice_bounds-is_enabled-end-in-Next-read_binding-2
 slice_bounds-is_enabled-end-in-Next-read_binding-2 c =
+    let own-full : length c.prepare-s.new.own ≡ 64 = c.prepare-s.auto.own in
     let few = (c.prepare-s.ensures.prepares _ c.in-Next.is).few-inputs in
-    let l = own-full (goal.at.slice_bounds-is_enabled-end-in-Next-read_binding-2 c).After-prepare-s in
+    let l = own-full in
     sym (length-take-le _ _ (omega arith))
 
 pub is_enabled-requires : goal.is_enabled-requires
 is_enabled-requires c =
+    let own-full : length c.prepare-s.new.own ≡ 64 = c.prepare-s.auto.own in
+    let begins-full : length c.prepare-s.new.begins ≡ 65 = c.prepare-s.auto.begins in
     let P = c.prepare-s.ensures.prepares _ c.in-Next.is in
     let few = P.few-inputs in
-    let l = own-full (goal.at.is_enabled-requires c).After-prepare-s in
+    let l = own-full in
     let k = length-take-le c.prepare-s.result.transition.inputs c.prepare-s.new.own (omega arith) in
     let b = c.read_binding in
     let bs = c.args.binding.now in
     let e = c.in-Next-read_binding.is in
-    record { places_fit = P.fits; begins_len = begins-full (goal.at.is_enabled-requires c).After-prepare-s; inputs_len_bound = omega arith; every = test_conjuncts P bs b.result b.ensures e (16 + c.prepare-s.result.transition.conjuncts - 16) (omega arith); every_2 = test_inputs P bs b.result b.ensures e }
+    record { places_fit = P.fits; begins_len = begins-full; inputs_len_bound = omega arith; every = test_conjuncts P bs b.result b.ensures e (16 + c.prepare-s.result.transition.conjuncts - 16) (omega arith); every_2 = test_inputs P bs b.result b.ensures e }
 
 pub returns-then-is_enabled : goal.returns-then-is_enabled
 returns-then-is_enabled c =
