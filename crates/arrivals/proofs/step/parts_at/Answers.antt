@@ -6,7 +6,7 @@ use Rattle.arrivals.proofs.Parting.{Parting, parting_start, parting_ends, partin
 use Rattle.arrivals.proofs.step.parts_at.Goals as goal
 
 pub loop-i-init : goal.loop-i-init
-loop-i-init c = let p = c.requires in parting_start _ _ _ _ _ p.parts_len p.has_several
+loop-i-init c = parting_start _ _ _ _ _ c.requires.parts_len c.requires.has_several
 
 pub offset_bounds-net-next : goal.offset_bounds-net-next
 offset_bounds-net-next c = begins_scaled (next-stands c.loop-i.invariant c.loop-i-test.true)

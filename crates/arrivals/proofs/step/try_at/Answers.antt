@@ -25,7 +25,7 @@ pub match_colour-requires : goal.match_colour-requires
 match_colour-requires c = let h = entry_inside _ _ c.args.marking.now c.args.i c.requires.safe c.in-Match.is c.requires.i_lt_count in let w = h.1 in record { slots_len = c.requires.slots_len; width_bound = (h.0, omega arith); parts_len = c.requires.noted.full; saved = c.requires.saved }
 
 pub solve_at-requires : goal.solve_at-requires
-solve_at-requires c = record { slots_len = c.requires.slots_len; has_conjunct = conjunct_ready _ _ c.args.net.now c.args.i c.requires.ready c.in-Solve.is c.requires.i_lt_count }
+solve_at-requires c = record { slots_len = c.requires.slots_len; has_conjunct = conjunct_ready _ c.args.s c.args.net.now c.args.i c.requires.ready c.in-Solve.is c.requires.i_lt_count }
 
 pub take_value-requires : goal.take_value-requires
 take_value-requires c = record { slots_len = c.requires.slots_len; n_lt_variables = value-inside _ _ c.args.marking.now c.args.i c.requires.safe c.in-Range.is c.requires.i_lt_count }

@@ -8,13 +8,13 @@ pub returns-then-full : goal.returns-then-full
 returns-then-full c = record { leaf = leaf_over _ _ _ _ _ _ _ _ _ _ _ c.requires.held c.if-full.true; keeps = keeps_all _ _ _ }
 
 pub enabled_behind-requires : goal.enabled_behind-requires
-enabled_behind-requires c = let p = c.requires in record { places_fit = p.places_fit; begins_len = p.begins_len; inputs_len_bound = p.inputs_len_bound; keys_len = p.keys_len; every = p.every; every_2 = p.every_2; known = p.known }
+enabled_behind-requires c = record { places_fit = c.requires.places_fit; begins_len = c.requires.begins_len; inputs_len_bound = c.requires.inputs_len_bound; keys_len = c.requires.keys_len; every = c.requires.every; every_2 = c.requires.every_2; known = c.requires.known }
 
 pub insert_row-requires : goal.insert_row-requires
-insert_row-requires c = let p = c.requires.1.1.1.1.1.1.1 in record { kept = p.1.kept; n_le_most = (p.1.within, p.1.room); every = p.0; row_len_bound = p.1.few }
+insert_row-requires c = record { kept = c.requires.held.kept; n_le_most = (c.requires.held.within, c.requires.held.room); every = c.requires.every_3; row_len_bound = c.requires.held.few }
 
 pub returns-then-enabled_behind : goal.returns-then-enabled_behind
-returns-then-enabled_behind c = let e = c.enabled_behind.ensures in record { leaf = leaf_added _ _ _ _ _ _ _ _ _ _ _ c.requires.held e.0 c.if-enabled_behind.true c.if-full.false c.insert_row.ensures; keeps = e.1 }
+returns-then-enabled_behind c = record { leaf = leaf_added _ _ _ _ _ _ _ _ _ _ _ c.requires.held c.enabled_behind.ensures.enabled_at c.if-enabled_behind.true c.if-full.false c.insert_row.ensures; keeps = c.enabled_behind.ensures.keeps }
 
 pub returns : goal.returns
-returns c = let e = c.enabled_behind.ensures in record { leaf = leaf_disabled _ _ _ _ _ _ _ _ _ _ _ c.requires.held e.0 c.if-enabled_behind.false; keeps = e.1 }
+returns c = record { leaf = leaf_disabled _ _ _ _ _ _ _ _ _ _ _ c.requires.held c.enabled_behind.ensures.enabled_at c.if-enabled_behind.false; keeps = c.enabled_behind.ensures.keeps }

@@ -5,10 +5,10 @@ use Rattle.leaves.proofs.Leafing.{leaf_disabled, leaf_added}
 use Rattle.leaves.proofs.leaf.only_leaf.Goals as goal
 
 pub is_enabled-requires : goal.is_enabled-requires
-is_enabled-requires c = let p = c.requires in record { places_fit = p.places_fit; begins_len = p.begins_len; inputs_len_bound = p.inputs_len_bound; every = p.every; every_2 = p.every_2 }
+is_enabled-requires c = record { places_fit = c.requires.places_fit; begins_len = c.requires.begins_len; inputs_len_bound = c.requires.inputs_len_bound; every = c.requires.every; every_2 = c.requires.every_2 }
 
 pub insert_row-requires : goal.insert_row-requires
-insert_row-requires c = let p = c.requires.1.1.1.1.1 in record { kept = p.1.kept; n_le_most = (p.1.within, p.1.room); every = p.0; row_len_bound = p.1.few }
+insert_row-requires c = record { kept = c.requires.held.kept; n_le_most = (c.requires.held.within, c.requires.held.room); every = c.requires.every_3; row_len_bound = c.requires.held.few }
 
 pub returns-then-is_enabled : goal.returns-then-is_enabled
 returns-then-is_enabled c = leaf_added _ _ _ _ _ _ _ _ _ _ _ c.requires.held c.is_enabled.ensures c.if-is_enabled.true refl c.insert_row.ensures

@@ -7,15 +7,6 @@ use lib.Seq.{length-take-le}
 use Rattle.starts.proofs.Starting.{start_unaccepted, start_fits, start-unknown, start_unmarked, start_malformed, start-begins}
 use Rattle.starts.proofs.begin.begin.Goals as goal
 
-full : (c : goal.After-accept_net-index) → length c.accept_net-index.result.places_at ≡ 64
-full c = sym (length-map c.accept_net-index.result.places_at _) ∙ c.accept_net-index.type_inv.1.1.1.1.1.0.1.0.1
-
-wide : (c : goal.After-accept_net-index) → length c.accept_net-index.result.widths ≡ 64
-wide c = sym (length-map c.accept_net-index.result.widths _) ∙ c.accept_net-index.type_inv.1.1.1.1.1.1.0.1.0.1
-
-long : (c : goal.After-accept_net-index) → length c.accept_net-index.result.transitions_at ≡ 64
-long c = sym (length-map c.accept_net-index.result.transitions_at _) ∙ c.accept_net-index.type_inv.1.1.1.1.1.1.1.0.1.0.1
-
 pub returns-in_default : goal.returns-in_default
 returns-in_default c =
     let a = c.args in
@@ -23,37 +14,54 @@ returns-in_default c =
 
 pub slice_bounds-places_at-end : goal.slice_bounds-places_at-end
 slice_bounds-places_at-end c =
-    let w = full (goal.at.slice_bounds-places_at-end c).After-accept_net-index in
+    let full : length c.accept_net-index.result.places_at ≡ 64 = c.accept_net-index.type_inv.1.1.1.1.1.0.1.0.1 in
+    let w = full in
     let e = c.at_most-places.ensures in
     omega arith
 
 pub slice_bounds-read_marking_in-end : goal.slice_bounds-read_marking_in-end
 slice_bounds-read_marking_in-end c =
-    let w = full (goal.at.slice_bounds-read_marking_in-end c).After-accept_net-index in
+    let full : length c.accept_net-index.result.places_at ≡ 64 = c.accept_net-index.type_inv.1.1.1.1.1.0.1.0.1 in
+    let w = full in
     let e = c.at_most-places.ensures in
     sym (length-take-le _ _ (omega arith))
 
 pub read_marking_in-requires : goal.read_marking_in-requires
 read_marking_in-requires c =
+    let full : length c.accept_net-index.result.places_at ≡ 64 = c.accept_net-index.type_inv.1.1.1.1.1.0.1.0.1 in
+    let wide : length c.accept_net-index.result.widths ≡ 64 = c.accept_net-index.type_inv.1.1.1.1.1.1.0.1.0.1 in
+    let long : length c.accept_net-index.result.transitions_at ≡ 64 = c.accept_net-index.type_inv.1.1.1.1.1.1.1.0.1.0.1 in
     let a = c.args in
-    record { places_fit = start_fits a.net.now a.buffer.now a.m a.picks.now c.accept_net-index.result c.accept_net-index.ensures c.in-Next.is (full (goal.at.read_marking_in-requires c).After-accept_net-index) (wide (goal.at.read_marking_in-requires c).After-accept_net-index) (long (goal.at.read_marking_in-requires c).After-accept_net-index) c.at_most.ensures c.at_most-places.ensures; begins_len = refl }
+    record { places_fit = start_fits a.net.now a.buffer.now a.m a.picks.now c.accept_net-index.result c.accept_net-index.ensures c.in-Next.is full wide long c.at_most.ensures c.at_most-places.ensures; begins_len = refl }
 
 pub returns-in-At : goal.returns-in-At
 returns-in-At c =
+    let full : length c.accept_net-index.result.places_at ≡ 64 = c.accept_net-index.type_inv.1.1.1.1.1.0.1.0.1 in
+    let wide : length c.accept_net-index.result.widths ≡ 64 = c.accept_net-index.type_inv.1.1.1.1.1.1.0.1.0.1 in
+    let long : length c.accept_net-index.result.transitions_at ≡ 64 = c.accept_net-index.type_inv.1.1.1.1.1.1.1.0.1.0.1 in
     let a = c.args in
-    start-unknown a.net.now a.buffer.now a.m a.picks.now c.accept_net-index.result c.accept_net-index.ensures c.in-Next.is (full (goal.at.returns-in-At c).After-accept_net-index) (wide (goal.at.returns-in-At c).After-accept_net-index) (long (goal.at.returns-in-At c).After-accept_net-index) c.at_most.ensures c.first_unknown.result c.first_unknown.ensures c.in-At.is c.refused_index.ensures
+    start-unknown a.net.now a.buffer.now a.m a.picks.now c.accept_net-index.result c.accept_net-index.ensures c.in-Next.is full wide long c.at_most.ensures c.first_unknown.result c.first_unknown.ensures c.in-At.is c.refused_index.ensures
 
 pub returns-in-Refused : goal.returns-in-Refused
 returns-in-Refused c =
+    let full : length c.accept_net-index.result.places_at ≡ 64 = c.accept_net-index.type_inv.1.1.1.1.1.0.1.0.1 in
+    let wide : length c.accept_net-index.result.widths ≡ 64 = c.accept_net-index.type_inv.1.1.1.1.1.1.0.1.0.1 in
+    let long : length c.accept_net-index.result.transitions_at ≡ 64 = c.accept_net-index.type_inv.1.1.1.1.1.1.1.0.1.0.1 in
     let a = c.args in
-    start_unmarked a.net.now a.buffer.now a.m a.picks.now c.accept_net-index.result c.accept_net-index.ensures c.in-Next.is (full (goal.at.returns-in-Refused c).After-accept_net-index) (wide (goal.at.returns-in-Refused c).After-accept_net-index) (long (goal.at.returns-in-Refused c).After-accept_net-index) c.at_most.ensures c.first_unknown.result c.first_unknown.ensures c.in-Nothing.is c.at_most-places.ensures c.read_marking_in.result c.read_marking_in.ensures c.in-Refused.is c.refused_index-in-Refused.ensures
+    start_unmarked a.net.now a.buffer.now a.m a.picks.now c.accept_net-index.result c.accept_net-index.ensures c.in-Next.is full wide long c.at_most.ensures c.first_unknown.result c.first_unknown.ensures c.in-Nothing.is c.at_most-places.ensures c.read_marking_in.result c.read_marking_in.ensures c.in-Refused.is c.refused_index-in-Refused.ensures
 
 pub returns-in-At-first_malformed : goal.returns-in-At-first_malformed
 returns-in-At-first_malformed c =
+    let full : length c.accept_net-index.result.places_at ≡ 64 = c.accept_net-index.type_inv.1.1.1.1.1.0.1.0.1 in
+    let wide : length c.accept_net-index.result.widths ≡ 64 = c.accept_net-index.type_inv.1.1.1.1.1.1.0.1.0.1 in
+    let long : length c.accept_net-index.result.transitions_at ≡ 64 = c.accept_net-index.type_inv.1.1.1.1.1.1.1.0.1.0.1 in
     let a = c.args in
-    start_malformed a.net.now a.buffer.now a.m a.picks.now c.accept_net-index.result c.accept_net-index.ensures c.in-Next.is (full (goal.at.returns-in-At-first_malformed c).After-accept_net-index) (wide (goal.at.returns-in-At-first_malformed c).After-accept_net-index) (long (goal.at.returns-in-At-first_malformed c).After-accept_net-index) c.at_most.ensures c.first_unknown.result c.first_unknown.ensures c.in-Nothing.is c.at_most-places.ensures c.read_marking_in.result c.read_marking_in.ensures c.in-Next-read_marking_in.is c.first_malformed.result c.first_malformed.ensures c.in-At-first_malformed.is c.refused_index-in-At-first_malformed.ensures
+    start_malformed a.net.now a.buffer.now a.m a.picks.now c.accept_net-index.result c.accept_net-index.ensures c.in-Next.is full wide long c.at_most.ensures c.first_unknown.result c.first_unknown.ensures c.in-Nothing.is c.at_most-places.ensures c.read_marking_in.result c.read_marking_in.ensures c.in-Next-read_marking_in.is c.first_malformed.result c.first_malformed.ensures c.in-At-first_malformed.is c.refused_index-in-At-first_malformed.ensures
 
 pub returns-in-Nothing-first_malformed : goal.returns-in-Nothing-first_malformed
 returns-in-Nothing-first_malformed c =
+    let full : length c.accept_net-index.result.places_at ≡ 64 = c.accept_net-index.type_inv.1.1.1.1.1.0.1.0.1 in
+    let wide : length c.accept_net-index.result.widths ≡ 64 = c.accept_net-index.type_inv.1.1.1.1.1.1.0.1.0.1 in
+    let long : length c.accept_net-index.result.transitions_at ≡ 64 = c.accept_net-index.type_inv.1.1.1.1.1.1.1.0.1.0.1 in
     let a = c.args in
-    start-begins a.net.now a.buffer.now a.m a.picks.now c.accept_net-index.result c.accept_net-index.ensures c.in-Next.is (full (goal.at.returns-in-Nothing-first_malformed c).After-accept_net-index) (wide (goal.at.returns-in-Nothing-first_malformed c).After-accept_net-index) (long (goal.at.returns-in-Nothing-first_malformed c).After-accept_net-index) c.at_most.ensures c.first_unknown.result c.first_unknown.ensures c.in-Nothing.is c.at_most-places.ensures c.read_marking_in.result c.read_marking_in.ensures c.in-Next-read_marking_in.is c.first_malformed.result c.first_malformed.ensures (c.accept_net-index.auto.table ∙ c.requires) c.in-Nothing-first_malformed.is
+    start-begins a.net.now a.buffer.now a.m a.picks.now c.accept_net-index.result c.accept_net-index.ensures c.in-Next.is full wide long c.at_most.ensures c.first_unknown.result c.first_unknown.ensures c.in-Nothing.is c.at_most-places.ensures c.read_marking_in.result c.read_marking_in.ensures c.in-Next-read_marking_in.is c.first_malformed.result c.first_malformed.ensures (c.accept_net-index.auto.table ∙ c.requires) c.in-Nothing-first_malformed.is
