@@ -216,3 +216,13 @@ module _ {ws ps : List ℕ} {position v : ℕ} {inputs conjuncts elements ms beg
   -- the words that were lent, under slots that are equal
   pub noted_of : {parts known : List ℕ} {step : Step} {b₁ : List ℕ} → Stepping parts known step → b₁ ≡ b → Noted v b₁ parts known
   noted_of {parts} {known} P e = subst (λ (l : List ℕ). Noted v l parts known) (sym e) P.noted
+
+  -- a try that went on hands the same to a leaf as to a walk
+  pub onward : {parts known : List ℕ} {step : Step} (P : Stepping parts known step) (i : ℕ) {b₁ : List ℕ} (e : b₁ ≡ b) {on : Bool} {b' : List ℕ} → IsTried v (get_or (tries_by ws (position + 1) v ms step parts (partial_of v b₁)) i none) b₁ on b' → i < step.count → on ≡ true → length b ≡ v → length b' ≡ length b₁ → {tested : List ℕ} → Settling s inputs tested (drop d s.transition.plan) (partial_of v b) → {most budget : ℕ} {cur : Progress} {m : List ℕ} → Held v most cur.rows m → Unspent budget (record { tries = cur.tries + 1; rows = cur.rows; spent = cur.spent; full = cur.full }) → Onward s inputs tested v d b' most budget cur m
+  onward P i e x h f l n T H U = record {
+    sound = P.sound _ i (rw P.count h) (try_on P i e x f);
+    settled = P.settles _ T _ i (rw P.count h) (try_on P i e x f);
+    long = n ∙ ap length e ∙ l;
+    held = H;
+    unspent = U;
+  }

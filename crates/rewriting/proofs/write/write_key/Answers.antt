@@ -4,7 +4,7 @@ use borrow.Author.Rules.{rules}
 use Rattle.rewriting.proofs.write.write_key.Goals as goal
 
 pub write_entry-requires : goal.write_entry-requires
-write_entry-requires c = let p = c.requires in let few = p.places_fit.few in let there = p.key_in_bounds.0 in record { place_bound = (omega arith, p.key_in_bounds.1); count_in_bounds = rw c.width_of-width.ensures.0 p.count_in_bounds }
+write_entry-requires c = let few = c.requires.places_fit.few in let there = c.requires.key_in_bounds.0 in record { place_bound = (omega arith, c.requires.key_in_bounds.1); count_in_bounds = rw c.width_of-width.ensures.0 c.requires.count_in_bounds }
 
 pub returns : goal.returns
 returns c = rw c.width_of-width.ensures.0 at c.write_entry.ensures
