@@ -43,7 +43,7 @@ pub slice_bounds-keep_rest-end-in-loop-t : goal.slice_bounds-keep_rest-end-in-lo
 slice_bounds-keep_rest-end-in-loop-t c = let K = c.requires.net_known in let f = few K (known-number K c.loop-t-test.true) in let l = c.loop-t.invariant.long in omega arith
 
 pub keep_rest-requires : goal.keep_rest-requires
-keep_rest-requires c = rests_next c.requires.net_known c.loop-t-test.true c.loop-t.invariant
+keep_rest-requires c = let n = rests_next c.requires.net_known c.loop-t-test.true c.loop-t.invariant in record { restable = n.0; row_len = n.1 }
 
 pub overflow_add-t : goal.overflow_add-t
 overflow_add-t c = let K = c.requires.net_known in let f = few K (known-number K c.loop-t-test.true) in search rules
