@@ -9,10 +9,10 @@ use borrow.Author.Rules.{rules}
 use Rattle.firing.proofs.fire.fire_taken.Goals as goal
 
 pub gather-outs-requires : goal.gather-outs-requires
-gather-outs-requires c = let p = c.requires in record { places_fit = p.places_fit; ats_len_bound = p.outputs_len_bound; keys_len = (refl, refl); every = fireable-outputs p.taken_at.enabled.fireable; known = known_nothing _ _ _ _ _ _ }
+gather-outs-requires c = record { places_fit = c.requires.places_fit; ats_len_bound = c.requires.outputs_len_bound; keys_len = (refl, refl); every = fireable-outputs c.requires.taken_at.enabled.fireable; known = known_nothing _ _ _ _ _ _ }
 
 pub returns-then-not-outs : goal.returns-then-not-outs
-returns-then-not-outs c = record { fired = λ is arcs i. record { fired = λ gs e. record { fired = λ q. fired_14 q e i c.gather-outs.ensures.gathered c.args.next.now (ap not c.if-not-outs.true) } } }
+returns-then-not-outs c = record { fired = λ is arcs i. record { fired = λ gs e. record { fired = λ q. fired_14 q e i c.gather-outs.ensures.gathered c.args.next.now c.if-not-outs.true } } }
 
 pub slice_bounds-fire_keys-end : goal.slice_bounds-fire_keys-end
 slice_bounds-fire_keys-end c = keys_front c.requires.taken_at.gathered
@@ -34,13 +34,11 @@ slice_bounds-fire_keys-end-4 c = amounts_front c.gather-outs.ensures.gathered
 
 pub fire_keys-requires : goal.fire_keys-requires
 fire_keys-requires c =
-    let p = c.requires in
-    let t = p.taken_at in
+    let t = c.requires.taken_at in
     let o = c.gather-outs.ensures.gathered in
-    fired_stepping t.enabled.fireable t.enabled.enabled t.gathered o (ap not c.if-not-outs.false) (gathered-moves p.places_fit p.begins_len t.gathered o)
+    fired_stepping t.enabled.fireable t.enabled.enabled t.gathered o c.if-not-outs.false (gathered-moves c.requires.places_fit c.requires.begins_len t.gathered o)
 
 pub returns : goal.returns
 returns c =
-    let p = c.requires in
     let o = c.gather-outs.ensures.gathered in
-    record { fired = λ is arcs i. record { fired = λ gs e. record { fired = λ q. fired-step q e i o (ap not c.if-not-outs.false) (gathered-moves p.places_fit p.begins_len i o) c.fire_keys.ensures } } }
+    record { fired = λ is arcs i. record { fired = λ gs e. record { fired = λ q. fired-step q e i o c.if-not-outs.false (gathered-moves c.requires.places_fit c.requires.begins_len i o) c.fire_keys.ensures } } }
