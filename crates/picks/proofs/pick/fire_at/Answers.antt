@@ -26,7 +26,7 @@ copy_words-requires c =
     let m = c.at_most-room.ensures in
     let f = c.fire_enabled in
     let d = c.in-Written.is in
-    let l = f.auto.1.1.1.1.1.1.1.0 in
+    let l = f.auto.next in
     copy_fits c.args.buffer.now c.args.length c.args.spare.now m f.ensures d _ l (written-fits c.args.buffer.now c.args.length c.args.spare.now m f.ensures d c.requires l)
 
 pub returns-in-Refused : goal.returns-in-Refused
@@ -37,5 +37,5 @@ returns-in-Written c =
     let m = c.at_most-room.ensures in
     let f = c.fire_enabled in
     let d = c.in-Written.is in
-    let l = f.auto.1.1.1.1.1.1.1.0 in
+    let l = f.auto.next in
     fired-written c.args.buffer.now c.args.length c.args.spare.now m f.ensures d _ l (written-fits c.args.buffer.now c.args.length c.args.spare.now m f.ensures d c.requires l) c.copy_words.ensures
