@@ -9,8 +9,7 @@ use firing::fire::fire;
 
 // Fire: the refusal's number, 0 where the binding is fired; written are the new marking to the front of `next`, its length, 0 where it is
 // refused, and the position, 0 where there is none. A refusal leaves `next` as it was.
-#[unsafe(no_mangle)]
-pub extern "C" fn gimletlemon_fire(
+pub fn gimletlemon_fire(
     net: &[u32],
     transition: u32,
     marking: &[u32],

@@ -1,4 +1,4 @@
-// What a C program links: the calls as functions on pointers, lengths and numbers. host/gimletlemon.h declares them.
+// The calls as functions on slices and numbers, which tell their answers in numbers that are lent. The crate gimletlemon_c hands them to C programs.
 #![tactic(auto)]
 
 // Check and split.

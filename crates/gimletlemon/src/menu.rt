@@ -8,8 +8,7 @@ use answers::tell::tell_menu;
 
 // Menu: the refusal's number, 0 where the bindings are listed; written are their words to the front of `menu`, how many they are and the tries of the
 // plan, 0 and 0 where it is refused, and the position, 0 where there is none.
-#[unsafe(no_mangle)]
-pub extern "C" fn gimletlemon_menu(
+pub fn gimletlemon_menu(
     net: &[u32],
     transition: u32,
     marking: &[u32],

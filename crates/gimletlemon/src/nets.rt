@@ -11,16 +11,14 @@ use answers::tell::tell_check;
 use byte_checks::check::check_bytes;
 
 // Check: the refusal's number, 0 where the net is accepted; its position is written, 0 where there is none.
-#[unsafe(no_mangle)]
-pub extern "C" fn gimletlemon_check(net: &[u32], position: &mut u64) -> u32
+pub fn gimletlemon_check(net: &[u32], position: &mut u64) -> u32
     ensures { told result position.new ≡ check_refusal (check_call net.now) }
 {
     tell_check(check(net), position)
 }
 
 // The same on little-endian bytes.
-#[unsafe(no_mangle)]
-pub extern "C" fn gimletlemon_check_bytes(net: &[u8], position: &mut u64) -> u32
+pub fn gimletlemon_check_bytes(net: &[u8], position: &mut u64) -> u32
     ensures { told result position.new ≡ check_refusal (check_bytes_call net.now) }
 {
     tell_check(check_bytes(net), position)
@@ -28,8 +26,7 @@ pub extern "C" fn gimletlemon_check_bytes(net: &[u8], position: &mut u64) -> u32
 
 // Split: the same for a net at the front of words. Where the words after the net begin is written too, the number of words where the net is
 // refused.
-#[unsafe(no_mangle)]
-pub extern "C" fn gimletlemon_split(words: &[u32], rest: &mut u64, position: &mut u64) -> u32
+pub fn gimletlemon_split(words: &[u32], rest: &mut u64, position: &mut u64) -> u32
     ensures position_after { split_into (drop rest.new words.now) result position.new ≡ split_call words.now }
     ensures rest_after { rest.new ≡ length words.now - length (split_call words.now).rest }
 {

@@ -7,8 +7,7 @@ use answers::tell::tell_run;
 
 // Run: the number of the refusal that ended it, 0 where all picks were fired; written are the picks done, the length of the marking then at the front
 // of the buffer, 0 where the input is refused, and the position, 0 where there is none.
-#[unsafe(no_mangle)]
-pub extern "C" fn gimletlemon_run(
+pub fn gimletlemon_run(
     net: &[u32],
     budget: u32,
     buffer: &mut [u32],

@@ -10,8 +10,7 @@ use testing::test::test;
 
 // Test: the refusal's number, 0 where net, transition, marking and binding are accepted; written are 1 for yes or 0 for no, 0 where it is
 // refused, and the position, 0 where there is none.
-#[unsafe(no_mangle)]
-pub extern "C" fn gimletlemon_test(
+pub fn gimletlemon_test(
     net: &[u32],
     transition: u32,
     marking: &[u32],
@@ -26,8 +25,7 @@ pub extern "C" fn gimletlemon_test(
 }
 
 // The same on little-endian bytes.
-#[unsafe(no_mangle)]
-pub extern "C" fn gimletlemon_test_bytes(
+pub fn gimletlemon_test_bytes(
     net: &[u8],
     transition: u32,
     marking: &[u8],

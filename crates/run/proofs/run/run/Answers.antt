@@ -7,23 +7,25 @@ use lib.Seq.{length-take-le}
 use Rattle.run.proofs.Calling.{run_unstarted, run_runnable, run_inside, run_ended}
 use Rattle.run.proofs.run.run.Goals as goal
 
-full : (c : goal.After-begin-index) → length c.begin-index.result.places_at ≡ 64
-full c = sym (length-map c.begin-index.result.places_at _) ∙ c.begin-index.type_inv.1.1.1.1.1.0.1.0.1
-
-long : (c : goal.After-begin-index) → length c.begin-index.result.transitions_at ≡ 64
-long c = sym (length-map c.begin-index.result.transitions_at _) ∙ c.begin-index.type_inv.1.1.1.1.1.1.1.0.1.0.1
-
 pub slice_bounds-places_at-end : goal.slice_bounds-places_at-end
-slice_bounds-places_at-end c = let w = full (goal.at.slice_bounds-places_at-end c).After-begin-index in let e = c.at_most-places.ensures in omega arith
+slice_bounds-places_at-end c =
+    let full : length c.begin-index.result.places_at ≡ 64 = c.begin-index.type_inv.1.1.1.1.1.0.1.0.1 in
+    let w = full in let e = c.at_most-places.ensures in omega arith
 
 pub slice_bounds-fire_picks-end : goal.slice_bounds-fire_picks-end
-slice_bounds-fire_picks-end c = let w = full (goal.at.slice_bounds-fire_picks-end c).After-begin-index in let e = c.at_most-places.ensures in sym (length-take-le _ _ (omega arith))
+slice_bounds-fire_picks-end c =
+    let full : length c.begin-index.result.places_at ≡ 64 = c.begin-index.type_inv.1.1.1.1.1.0.1.0.1 in
+    let w = full in let e = c.at_most-places.ensures in sym (length-take-le _ _ (omega arith))
 
 pub slice_bounds-transitions_at-end : goal.slice_bounds-transitions_at-end
-slice_bounds-transitions_at-end c = let w = long (goal.at.slice_bounds-transitions_at-end c).After-begin-index in let e = c.at_most-transitions.ensures in omega arith
+slice_bounds-transitions_at-end c =
+    let long : length c.begin-index.result.transitions_at ≡ 64 = c.begin-index.type_inv.1.1.1.1.1.1.1.0.1.0.1 in
+    let w = long in let e = c.at_most-transitions.ensures in omega arith
 
 pub slice_bounds-fire_picks-end-in-Next : goal.slice_bounds-fire_picks-end-in-Next
-slice_bounds-fire_picks-end-in-Next c = let w = long (goal.at.slice_bounds-fire_picks-end-in-Next c).After-begin-index in let e = c.at_most-transitions.ensures in sym (length-take-le _ _ (omega arith))
+slice_bounds-fire_picks-end-in-Next c =
+    let long : length c.begin-index.result.transitions_at ≡ 64 = c.begin-index.type_inv.1.1.1.1.1.1.1.0.1.0.1 in
+    let w = long in let e = c.at_most-transitions.ensures in sym (length-take-le _ _ (omega arith))
 
 pub slice_bounds-fire_picks-end-in-Next-2 : goal.slice_bounds-fire_picks-end-in-Next-2
 slice_bounds-fire_picks-end-in-Next-2 c = sym c.begin-index.auto.table

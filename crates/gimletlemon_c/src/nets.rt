@@ -1,0 +1,32 @@
+// Check and split for a C program.
+ghost use Rattle.std.specs.Prelude.{◌≡◌, ◌-◌, length, drop};
+ghost use Rattle.semantics.specs.Answer.{check_refusal};
+ghost use Rattle.semantics.specs.Calls.{check_call, split_call, check_bytes_call};
+ghost use Rattle.accept.specs.Front.{split_into};
+ghost use Rattle.answers.specs.Told.{told};
+
+// Check: the refusal's number, 0 where the net is accepted; its position is written, 0 where there is none.
+#[unsafe(no_mangle)]
+pub extern "C" fn gimletlemon_check(net: &[u32], position: &mut u64) -> u32
+    ensures { told result position.new ≡ check_refusal (check_call net.now) }
+{
+    gimletlemon::nets::gimletlemon_check(net, position)
+}
+
+// The same on little-endian bytes.
+#[unsafe(no_mangle)]
+pub extern "C" fn gimletlemon_check_bytes(net: &[u8], position: &mut u64) -> u32
+    ensures { told result position.new ≡ check_refusal (check_bytes_call net.now) }
+{
+    gimletlemon::nets::gimletlemon_check_bytes(net, position)
+}
+
+// Split: the same for a net at the front of words. Where the words after the net begin is written too, the number of words where the net is
+// refused.
+#[unsafe(no_mangle)]
+pub extern "C" fn gimletlemon_split(words: &[u32], rest: &mut u64, position: &mut u64) -> u32
+    ensures position_after { split_into (drop rest.new words.now) result position.new ≡ split_call words.now }
+    ensures rest_after { rest.new ≡ length words.now - length (split_call words.now).rest }
+{
+    gimletlemon::nets::gimletlemon_split(words, rest, position)
+}
