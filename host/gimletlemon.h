@@ -1,5 +1,5 @@
 /*
- * Gimletlemon for C programs. Link libgimletlemon.a, which `rt staticlib gimletlemon` builds; README.md has the commands.
+ * Gimletlemon for C programs. Link libgimletlemon.a, which host/run builds of the crate gimletlemon_c; README.md has the commands.
  *
  * Every function takes any input: nothing has to hold of the words or bytes. What is not a net, a marking or a binding is refused.
  *
