@@ -1,8 +1,7 @@
 -- `accept::accepted::accept_into` meets its contract: the net's word, its places, and its transitions with their plans, by the rules of
 -- net/proofs/Nets and `Checking`. The tables have 64 elements, and a net has no more places or transitions.
 use mathlib.Core.Path.{◌≡◌, sym, ap, ◌∙◌}
-use mathlib.Core.List.{[]}
-use Prim.Native.Nat.{◌/◌, ◌%◌, ◌≤◌}
+use Prim.Native.Nat.{◌/◌, ◌%◌}
 use native.Mathlib.Omega.{arith}
 use borrow.Author.Rules.{rules}
 use lib.ListN.{length}

@@ -1,5 +1,4 @@
 -- `accept::accepted::accept_net` meets its contract: a net that ends with the words stands alone.
-use borrow.Author.Rules.{rules}
 use Rattle.accept.proofs.Checking.{whole-index}
 use Rattle.accept.proofs.accepted.accept_net.Goals as goal
 

@@ -1,5 +1,4 @@
 -- `accept::accepted::accepted_end` meets its contract: the end of the net, its tables left behind.
-use borrow.Author.Rules.{rules}
 use Rattle.accept.proofs.Checking.{extent_ends}
 use Rattle.accept.proofs.accepted.accepted_end.Goals as goal
 

@@ -1,5 +1,4 @@
 -- `accept::accepted::settled` meets its contract: each return is one of `settle`'s.
-use borrow.Author.Rules.{rules}
 use borrow.Author.Tests.{lt-ltb, le-ltb}
 use Rattle.accept.proofs.accepted.settled.Goals as goal
 

@@ -1,6 +1,5 @@
 -- `accept::check::check` meets its contract: each return is a rule of `Checking`.
 use mathlib.Core.Path.{ap, ◌∙◌}
-use borrow.Author.Rules.{rules}
 use Rattle.expression.specs.Skip.{forget}
 use Rattle.accept.proofs.Checking.{to_all, checked_refused, checked_accepted}
 use Rattle.accept.proofs.check.check.Goals as goal

@@ -1,6 +1,5 @@
 -- `accept::split::front` meets its contract: no net ends before the word 0.
 use mathlib.Core.Path.{ap, ◌∙◌}
-use borrow.Author.Rules.{rules}
 use Rattle.expression.specs.Skip.{forget}
 use Rattle.accept.proofs.Checking.{to_front, front_ends}
 use Rattle.accept.proofs.split.front.Goals as goal

@@ -3,10 +3,6 @@ use Rattle.accept.proofs.Checking.{split_part, split_refused, split_inside}
 use borrow.Author.Rules.{rules}
 use Rattle.accept.proofs.split.split.Goals as goal
 
--- src/split.rt:36:11
-pub front-requires : goal.front-requires
-front-requires c = search rules
-
 -- src/split.rt:40:13
 pub offset_bounds-words-next : goal.offset_bounds-words-next
 offset_bounds-words-next c = let h = split_inside _ c.front.ensures c.in-Next.is in search rules

@@ -1,6 +1,5 @@
 -- `answers::tell::tell_menu` meets its contract: by the cases of the answer.
 use mathlib.Core.Path.{sym, ap}
-use borrow.Author.Rules.{rules}
 use Rattle.semantics.specs.Answer.{menu_refusal, menu_bindings, menu_tries}
 use Rattle.answers.proofs.tell.tell_menu.Goals as goal
 

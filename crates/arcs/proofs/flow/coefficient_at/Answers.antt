@@ -2,7 +2,7 @@
 use native.Mathlib.Omega.{arith}
 use mir.Syntax.{w32}
 use mir.Val.{SFits}
-use borrow.Author.Rules.{rules, sfits_of}
+use borrow.Author.Rules.{sfits_of}
 use Rattle.word.proofs.Read.{negative, natural, read_natural}
 use Rattle.evaluation.proofs.Answers.{has_value, has_none}
 use Rattle.arcs.proofs.Flowing.{coefficient-none, coefficient_negative, coefficient_natural}

@@ -1,7 +1,6 @@
 -- `arcs::flow::pack` meets its contract: the loop of `Packing`.
-use Prim.Native.Nat.{◌-◌}
 use native.Mathlib.Omega.{arith}
-use Rattle.arcs.proofs.Packing.{Packing, packing}
+use Rattle.arcs.proofs.Packing.{packing}
 use Rattle.arcs.proofs.flow.pack.Goals as goal
 
 pub loop-i-init : goal.loop-i-init

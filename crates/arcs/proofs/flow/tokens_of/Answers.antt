@@ -1,7 +1,6 @@
 -- `arcs::flow::tokens_of` meets its contract: each arm is one of `moved_by`.
 use Prim.Native.Nat.{◌<◌, ◌^◌}
 use native.Mathlib.Omega.{arith}
-use borrow.Author.Rules.{rules}
 use borrow.Author.Tests.{eq-eqb, ne_eqb}
 use Rattle.arcs.proofs.flow.tokens_of.Goals as goal
 

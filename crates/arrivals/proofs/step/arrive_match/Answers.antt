@@ -1,6 +1,5 @@
 -- `arrivals::step::arrive_match` meets its contract: the arc stands there, and its tries are told by the rule of `Aiming`.
 use native.Mathlib.Omega.{arith}
-use borrow.Author.Rules.{rules}
 use Rattle.net.proofs.Placed.{place_inside, fits_at_lem}
 use Rattle.net.proofs.Standing.{arc-inside, place-there}
 use Rattle.arrivals.proofs.Aiming.{components_near, entries-up, components-stand, match-aimed}

@@ -1,5 +1,4 @@
 -- `arrivals::step::end_of` meets its contract: a CONSTANT or a VARIABLE word stands alone, and others are passed over.
-use borrow.Author.Rules.{rules}
 use Rattle.arrivals.proofs.Parting.{ending}
 use Rattle.arrivals.proofs.step.end_of.Goals as goal
 

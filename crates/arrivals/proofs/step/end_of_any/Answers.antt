@@ -1,5 +1,4 @@
 -- `arrivals::step::end_of_any` meets its contract: an expression stands there, so that passing over it is not refused.
-use borrow.Author.Rules.{rules}
 use Rattle.arrivals.proofs.Parting.{ending}
 use Rattle.arrivals.proofs.step.end_of_any.Goals as goal
 

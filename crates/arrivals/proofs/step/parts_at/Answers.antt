@@ -1,8 +1,6 @@
 -- `arrivals::step::parts_at` meets its contract: the loop keeps `Parting`.
-use Prim.Native.Nat.{◌-◌}
 use native.Mathlib.Omega.{arith}
-use borrow.Author.Rules.{rules}
-use Rattle.arrivals.proofs.Parting.{Parting, parting_start, parting_ends, parting_turn, next-stands, begins-inside, begins_scaled}
+use Rattle.arrivals.proofs.Parting.{parting_start, parting_ends, parting_turn, next-stands, begins-inside, begins_scaled}
 use Rattle.arrivals.proofs.step.parts_at.Goals as goal
 
 pub loop-i-init : goal.loop-i-init

@@ -1,11 +1,7 @@
 -- `beginnings::begins::index_marking` meets its contract: the turns of `Known`, place by place.
-use Prim.Native.Nat.{◌-◌, ◌≤◌}
-use lib.ListN.{length}
 use native.Mathlib.Omega.{arith}
-use borrow.Author.Rules.{rules}
-use Rattle.net.specs.Places.{places_at}
 use Rattle.net.proofs.Placed.{fits_at_lem, place_inside}
-use Rattle.beginnings.proofs.Known.{Ready, ready_start, ready_turn, ready_end}
+use Rattle.beginnings.proofs.Known.{ready_start, ready_turn, ready_end}
 use Rattle.beginnings.proofs.begins.index_marking.Goals as goal
 
 pub loop-p-init : goal.loop-p-init

@@ -1,11 +1,8 @@
 -- `beginnings::begins::index_marking` meets its contract: the turns of `Known`, place by place.
 use Prim.Native.Nat.{◌-◌, ◌≤◌}
 use lib.ListN.{length}
-use native.Mathlib.Omega.{arith}
-use borrow.Author.Rules.{rules}
 use Rattle.net.specs.Places.{places_at}
-use Rattle.net.proofs.Placed.{fits_at_lem, place_inside}
-use Rattle.beginnings.proofs.Known.{Ready, ready_start, ready_turn, ready_end}
+use Rattle.beginnings.proofs.Known.{Ready}
 use Rattle.beginnings.proofs.begins.index_marking.Given as goal
 
 abbrev pub invariant-loop-p : goal.invariant-loop-p

@@ -1,10 +1,7 @@
 -- `beginnings::begins::pass_place` meets its contract: each turn passes one entry of the place.
 use Prim.Native.Nat.{◌-◌}
 use lib.ListN.{length}
-use native.Mathlib.Omega.{arith}
-use borrow.Author.Rules.{rules}
 use Rattle.beginnings.specs.Indexed.{Passed}
-use Rattle.beginnings.proofs.Known.{passed_start, passed_turn}
 use Rattle.beginnings.proofs.begins.pass_place.Given as goal
 
 abbrev pub invariant-loop-at : goal.invariant-loop-at

@@ -3,7 +3,6 @@ use mathlib.Core.Path.{sym}
 use native.Mathlib.Omega.{arith}
 use lib.Seq.{length-take-le}
 use Rattle.byte_checks.proofs.Words.{enough-words}
-use borrow.Author.Rules.{rules}
 use Rattle.byte_checks.proofs.buffer.words_in.Goals as goal
 
 pub slice_bounds-result-end : goal.slice_bounds-result-end

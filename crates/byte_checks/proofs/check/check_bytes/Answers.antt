@@ -1,6 +1,5 @@
 -- `byte_checks::check::check_bytes` meets its contract: a bad length is refused, and then the words are checked.
 use Rattle.byte_checks.proofs.Words.{bytes-refused, bytes_checked}
-use borrow.Author.Rules.{rules}
 use Rattle.byte_checks.proofs.check.check_bytes.Goals as goal
 
 pub returns-then-net-ne0 : goal.returns-then-net-ne0

@@ -1,6 +1,5 @@
 -- `byte_tests::test::test_bytes` meets its contract: bad lengths are refused in order, and then the words are tested.
 use Rattle.byte_tests.proofs.Words.{test_refused-net, test_refused_marking, test_refused-binding, bytes-tested}
-use borrow.Author.Rules.{rules}
 use Rattle.byte_tests.proofs.test.test_bytes.Goals as goal
 
 pub returns-then-net-ne0 : goal.returns-then-net-ne0

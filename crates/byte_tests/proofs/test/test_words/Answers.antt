@@ -1,6 +1,5 @@
 -- `byte_tests::test::test_words` meets its contract: small buffers are lent where all bytes are few.
 use native.Mathlib.Omega.{arith}
-use borrow.Author.Rules.{rules}
 use borrow.Author.Tests.{leb-true}
 use Rattle.byte_tests.proofs.test.test_words.Goals as goal
 

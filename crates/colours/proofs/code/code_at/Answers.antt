@@ -1,6 +1,5 @@
 -- `colours::code::code_at` meets its contract: the digit of each word is put behind the code of the words before it.
 use Rattle.colours.proofs.Codes.{code_none, code_one, code_more, code_all, code_room}
-use borrow.Author.Rules.{rules}
 use native.Mathlib.Omega.{arith}
 use Rattle.colours.proofs.code.code_at.Goals as goal
 

@@ -2,7 +2,6 @@
 use Prim.Native.Nat.{◌%◌}
 use Rattle.colours.proofs.Codes.{digit-signed}
 use native.Mathlib.Omega.{arith}
-use borrow.Author.Rules.{rules}
 use Rattle.colours.proofs.code.digit_of.Goals as goal
 
 pub returns : goal.returns

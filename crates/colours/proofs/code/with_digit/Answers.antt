@@ -1,6 +1,5 @@
 -- `colours::code::with_digit` meets its contract: `word-behind`.
 use Rattle.colours.proofs.Codes.{word-behind}
-use borrow.Author.Rules.{rules}
 use Rattle.colours.proofs.code.with_digit.Goals as goal
 
 pub returns : goal.returns

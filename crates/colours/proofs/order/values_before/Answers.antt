@@ -1,8 +1,7 @@
 -- `colours::order::values_before` meets its contract: the loop of `Comparing` over words and words.
 use mathlib.Core.Bool.{not}
 use mathlib.Core.Path.{ap}
-use Prim.Native.Nat.{◌-◌}
-use Rattle.colours.proofs.Comparing.{WordsLeft, words-start, words_more, words_turn, comparing}
+use Rattle.colours.proofs.Comparing.{words-start, words_more, words_turn, comparing}
 use native.Mathlib.Omega.{arith}
 use borrow.Author.Rules.{rules}
 use Rattle.colours.proofs.order.values_before.Goals as goal

@@ -1,8 +1,6 @@
 -- `colours::order::values_before` meets its contract: the loop of `Comparing` over words and words.
 use Prim.Native.Nat.{◌-◌}
-use Rattle.colours.proofs.Comparing.{WordsLeft, words-start, words_more, words_turn, comparing}
-use native.Mathlib.Omega.{arith}
-use borrow.Author.Rules.{rules}
+use Rattle.colours.proofs.Comparing.{WordsLeft}
 use Rattle.colours.proofs.order.values_before.Given as goal
 
 abbrev pub invariant-loop-i : goal.invariant-loop-i

@@ -1,6 +1,5 @@
 -- `colours::range::digit_in` meets its contract: the digit of the low end, then that of the high end.
 use Rattle.colours.proofs.Ranging.{digit_below, digit-inside}
-use borrow.Author.Rules.{rules}
 use native.Mathlib.Omega.{arith}
 use Rattle.colours.proofs.range.digit_in.Goals as goal
 

@@ -3,7 +3,6 @@ use mathlib.Core.Bool.{not}
 use mathlib.Core.Path.{ap}
 use mir.Facts.{to_z-of_z}
 use Rattle.colours.proofs.Ranging.{range_past, range-digit}
-use borrow.Author.Rules.{rules}
 use Rattle.colours.proofs.range.in_range.Goals as goal
 
 pub returns-then-not-within : goal.returns-then-not-within

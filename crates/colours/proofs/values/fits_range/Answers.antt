@@ -1,7 +1,6 @@
 -- `colours::values::fits_range` meets its contract: the test of the bits, then the digit in the range.
 use Rattle.kinds.proofs.Taking.{tests}
 use Rattle.colours.proofs.Valuing.{value-digit}
-use borrow.Author.Rules.{rules}
 use Rattle.colours.proofs.values.fits_range.Goals as goal
 
 pub returns : goal.returns

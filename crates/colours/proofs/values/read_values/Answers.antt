@@ -1,8 +1,6 @@
 -- `colours::values::read_values` meets its contract: the loop of `Valuing`.
-use Prim.Native.Nat.{◌-◌}
-use Rattle.colours.proofs.Valuing.{Passing, passing_start, valuing}
+use Rattle.colours.proofs.Valuing.{passing_start, valuing}
 use native.Mathlib.Omega.{arith}
-use borrow.Author.Rules.{rules}
 use Rattle.colours.proofs.values.read_values.Goals as goal
 
 pub loop-i-init : goal.loop-i-init

@@ -1,8 +1,6 @@
 -- `colours::values::read_values` meets its contract: the loop of `Valuing`.
 use Prim.Native.Nat.{◌-◌}
-use Rattle.colours.proofs.Valuing.{Passing, passing_start, valuing}
-use native.Mathlib.Omega.{arith}
-use borrow.Author.Rules.{rules}
+use Rattle.colours.proofs.Valuing.{Passing}
 use Rattle.colours.proofs.values.read_values.Given as goal
 
 abbrev pub invariant-loop-i : goal.invariant-loop-i

@@ -1,5 +1,4 @@
 -- `counts::find::entries` meets its contract: each return divides by the size that its test names.
-use borrow.Author.Rules.{rules}
 use Rattle.counts.proofs.find.entries.Goals as goal
 
 pub returns-then-size-eq2 : goal.returns-then-size-eq2

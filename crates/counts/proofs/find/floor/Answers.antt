@@ -2,8 +2,7 @@
 use Prim.Native.Nat.{◌+◌, ◌*◌, ◌-◌, ◌/◌, ◌≤◌}
 use native.Mathlib.Omega.{arith}
 use lib.ListN.{length}
-use Rattle.colours.specs.Code.{coloured}
-use Rattle.counts.proofs.Ranked.{Bracket, bracket_start, bracket_up, bracket_down, bracket_end, middle_room}
+use Rattle.counts.proofs.Ranked.{bracket_start, bracket_up, bracket_down, bracket_end, middle_room}
 use Rattle.counts.proofs.find.floor.Goals as goal
 
 pub loop-high-init : goal.loop-high-init

@@ -1,9 +1,7 @@
 -- `counts::find::floor` meets its contract: the bracket of `Ranked` is halved until it holds one entry.
-use Prim.Native.Nat.{◌+◌, ◌*◌, ◌-◌, ◌/◌, ◌≤◌}
-use native.Mathlib.Omega.{arith}
-use lib.ListN.{length}
+use Prim.Native.Nat.{◌-◌}
 use Rattle.colours.specs.Code.{coloured}
-use Rattle.counts.proofs.Ranked.{Bracket, bracket_start, bracket_up, bracket_down, bracket_end, middle_room}
+use Rattle.counts.proofs.Ranked.{Bracket}
 use Rattle.counts.proofs.find.floor.Given as goal
 
 abbrev pub invariant-loop-high : goal.invariant-loop-high

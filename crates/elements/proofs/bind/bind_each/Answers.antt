@@ -1,11 +1,7 @@
 -- `elements::bind::bind_each` meets its contract: the loop of `Binding`, whose marks are as many as at first.
-use mathlib.Core.Path.{◌≡◌, refl, ◌∙◌}
-use mathlib.Core.Logic.{⊎_elim}
-use Prim.Native.Nat.{◌-◌}
+use mathlib.Core.Path.{refl, ◌∙◌}
 use native.Mathlib.Omega.{arith}
-use lib.ListN.{length}
-use borrow.Author.Rules.{rules}
-use Rattle.elements.proofs.Binding.{Binding, binding-start, noted-new, noted-before, binding_turn, binding-stop, binding}
+use Rattle.elements.proofs.Binding.{binding-start, noted-new, noted-before, binding_turn, binding-stop, binding}
 use Rattle.elements.proofs.bind.bind_each.Goals as goal
 use Rattle.elements.proofs.bind.bind_each.Goals.{then-bind_lone, else-bind_lone}
 

@@ -1,5 +1,4 @@
 -- `elements::bind::bind_lone` meets its contract: the rules of `Binding`.
-use borrow.Author.Rules.{rules}
 use Rattle.elements.proofs.Binding.{binding}
 use Rattle.elements.proofs.bind.bind_lone.Goals as goal
 

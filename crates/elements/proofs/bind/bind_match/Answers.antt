@@ -1,5 +1,4 @@
 -- `elements::bind::bind_match` meets its contract: the rules of `Binding`.
-use borrow.Author.Rules.{rules}
 use Rattle.elements.proofs.Binding.{binding}
 use Rattle.elements.proofs.bind.bind_match.Goals as goal
 

@@ -1,12 +1,7 @@
 -- `elements::element::element_of` meets its contract.
-use borrow.Author.Rules.{rules}
 use Rattle.word.proofs.Words.{bits-low}
 use Rattle.kinds.proofs.Taking.{tests}
 use Rattle.elements.proofs.element.element_of.Goals as goal
-
--- src/element.rt:21:13
-pub overflow_cast-n : goal.overflow_cast-n
-overflow_cast-n c = search rules
 
 -- src/element.rt:18:1
 pub returns-in-0 : goal.returns-in-0

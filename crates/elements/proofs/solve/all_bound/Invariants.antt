@@ -1,12 +1,8 @@
 -- `elements::solve::all_bound` meets its contract: the words ahead have only bound variables where all words have.
-use mathlib.Core.Path.{◌≡◌, refl}
+use mathlib.Core.Path.{◌≡◌}
 use Prim.Native.Nat.{◌-◌}
-use native.Mathlib.Omega.{arith}
-use borrow.Author.Rules.{rules}
-use borrow.Author.Tests.{not-true, not-false}
 use Rattle.elements.specs.Binds.{all_bound}
 use Rattle.elements.specs.Bound.{marked}
-use Rattle.elements.proofs.Solving.{solving}
 use Rattle.elements.proofs.solve.all_bound.Given as goal
 
 abbrev pub invariant-loop-at : goal.invariant-loop-at

@@ -1,5 +1,4 @@
 -- `elements::solve::bind_side` meets its contract: the rules of `Solving`.
-use borrow.Author.Rules.{rules}
 use Rattle.elements.proofs.Solving.{solving}
 use Rattle.elements.proofs.solve.bind_side.Goals as goal
 

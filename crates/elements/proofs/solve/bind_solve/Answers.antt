@@ -1,5 +1,4 @@
 -- `elements::solve::bind_solve` meets its contract: the rules of `Solving`; a side that binds nothing leaves the marks as they were.
-use borrow.Author.Rules.{rules}
 use Rattle.elements.proofs.Solving.{solving}
 use Rattle.elements.proofs.solve.bind_solve.Goals as goal
 

@@ -1,6 +1,5 @@
 -- `elements::solve::passes` meets its contract; a number of 8 or more has no mark.
 use native.Mathlib.Omega.{arith}
-use borrow.Author.Rules.{rules}
 use Rattle.elements.proofs.Solving.{passes_beyond, solving}
 use Rattle.elements.proofs.solve.passes.Goals as goal
 

@@ -1,5 +1,4 @@
 -- `expression::read::skip_any` meets its contract: what `pass` answers, fifteen words being left.
-use borrow.Author.Rules.{rules}
 use Rattle.expression.proofs.Skipping.{skipping}
 use Rattle.expression.proofs.read.skip_any.Goals as goal
 

@@ -1,8 +1,6 @@
 -- `firing::fire::fire_arcs` meets its contract: 13, or as `fire_taken`.
-use mathlib.Core.Bool.{not}
-use mathlib.Core.Path.{refl, sym, ap}
+use mathlib.Core.Path.{refl, sym}
 use Rattle.firing.proofs.Firing.{fireable-guard, fireable-inputs, taken-known, fired_13}
-use borrow.Author.Rules.{rules}
 use Rattle.firing.proofs.fire.fire_arcs.Goals as goal
 
 pub taken-ins-requires : goal.taken-ins-requires

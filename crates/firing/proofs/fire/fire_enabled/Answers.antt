@@ -2,7 +2,6 @@
 use mathlib.Core.Path.{refl, sym}
 use Rattle.gathering.proofs.Gathering.{known_nothing}
 use Rattle.firing.proofs.Firing.{fireable-inputs, enabled-gathered}
-use borrow.Author.Rules.{rules}
 use Rattle.firing.proofs.fire.fire_enabled.Goals as goal
 
 pub gather-ins-requires : goal.gather-ins-requires

@@ -1,11 +1,9 @@
 -- `firing::fire::fire_taken` meets its contract: each return is a rule of `Firing`.
-use mathlib.Core.Bool.{not}
-use mathlib.Core.Path.{refl, ap}
+use mathlib.Core.Path.{refl}
 use native.Mathlib.Omega.{arith}
 use Rattle.gathering.proofs.Gathering.{known_nothing}
 use Rattle.occurrence.proofs.Covering.{keys_front, amounts_front}
 use Rattle.firing.proofs.Firing.{fireable-outputs, gathered-moves, fired_14, fired_stepping, fired-step}
-use borrow.Author.Rules.{rules}
 use Rattle.firing.proofs.fire.fire_taken.Goals as goal
 
 pub gather-outs-requires : goal.gather-outs-requires

@@ -1,8 +1,6 @@
 -- `gathering::gather::gather` meets its contract: the loop of `Gathering`, a rule for each answer of an arc.
-use Prim.Native.Nat.{◌-◌}
-use lib.ListN.{length}
 use native.Mathlib.Omega.{arith}
-use Rattle.gathering.proofs.Gathering.{Gathering, gathering}
+use Rattle.gathering.proofs.Gathering.{gathering}
 use Rattle.gathering.proofs.gather.gather.Goals as goal
 
 pub loop-i-init : goal.loop-i-init

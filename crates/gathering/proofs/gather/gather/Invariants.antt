@@ -1,8 +1,7 @@
 -- `gathering::gather::gather` meets its contract: the loop of `Gathering`, a rule for each answer of an arc.
 use Prim.Native.Nat.{◌-◌}
 use lib.ListN.{length}
-use native.Mathlib.Omega.{arith}
-use Rattle.gathering.proofs.Gathering.{Gathering, gathering}
+use Rattle.gathering.proofs.Gathering.{Gathering}
 use Rattle.gathering.proofs.gather.gather.Given as goal
 
 abbrev pub invariant-loop-i : goal.invariant-loop-i

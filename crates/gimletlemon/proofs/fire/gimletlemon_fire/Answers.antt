@@ -1,6 +1,5 @@
 -- `gimletlemon::fire::gimletlemon_fire` meets its contract: what fire answers is told, and the buffer is as fire leaves it.
 use mathlib.Core.Path.{ap}
-use borrow.Author.Rules.{rules}
 use Rattle.semantics.specs.Answer.{fire_refusal, fire_length}
 use Rattle.semantics.specs.Calls.{FireEnd}
 use Rattle.gimletlemon.proofs.Telling.{passed_on}

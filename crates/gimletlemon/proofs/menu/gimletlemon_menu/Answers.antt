@@ -1,6 +1,5 @@
 -- `gimletlemon::menu::gimletlemon_menu` meets its contract: what menu answers is told, and the buffer is as menu leaves it.
 use mathlib.Core.Path.{ap}
-use borrow.Author.Rules.{rules}
 use Rattle.semantics.specs.Answer.{menu_refusal, menu_bindings, menu_tries}
 use Rattle.semantics.specs.Calls.{MenuEnd}
 use Rattle.gimletlemon.proofs.Telling.{passed_on}

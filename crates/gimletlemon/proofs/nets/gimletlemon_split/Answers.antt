@@ -1,6 +1,5 @@
 -- `gimletlemon::nets::gimletlemon_split` meets its contract: the part that split hands back is told by where it begins.
 use Rattle.gimletlemon.proofs.Telling.{split_short, split_told, split_start}
-use borrow.Author.Rules.{rules}
 use Rattle.gimletlemon.proofs.nets.gimletlemon_split.Goals as goal
 
 pub overflow_sub-rest : goal.overflow_sub-rest

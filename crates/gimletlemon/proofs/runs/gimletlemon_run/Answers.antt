@@ -1,6 +1,5 @@
 -- `gimletlemon::runs::gimletlemon_run` meets its contract: what run answers is told, and the buffers are as run leaves them.
 use mathlib.Core.Path.{ap}
-use borrow.Author.Rules.{rules}
 use Rattle.semantics.specs.declared.Outcome.{Outcome}
 use Rattle.semantics.specs.Calls.{RunEnd}
 use Rattle.answers.specs.Told.{run_refusal}

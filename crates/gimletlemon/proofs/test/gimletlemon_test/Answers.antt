@@ -1,7 +1,6 @@
 -- `gimletlemon::test::gimletlemon_test` meets its contract: what test answers is told.
 use Rattle.semantics.specs.Answer.{test_refusal, test_yes}
 use Rattle.gimletlemon.proofs.Telling.{passed_on}
-use borrow.Author.Rules.{rules}
 use Rattle.gimletlemon.proofs.test.gimletlemon_test.Goals as goal
 
 pub returns : goal.returns

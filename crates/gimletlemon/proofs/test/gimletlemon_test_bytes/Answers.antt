@@ -1,7 +1,6 @@
 -- `gimletlemon::test::gimletlemon_test_bytes` meets its contract: what test answers on bytes is told.
 use Rattle.semantics.specs.Answer.{test_refusal, test_yes}
 use Rattle.gimletlemon.proofs.Telling.{passed_on}
-use borrow.Author.Rules.{rules}
 use Rattle.gimletlemon.proofs.test.gimletlemon_test_bytes.Goals as goal
 
 pub returns : goal.returns

@@ -1,10 +1,7 @@
 -- `guards::guard::guard_holds` meets its contract: the loop of `Guarding`.
-use native.Mathlib.Omega.{arith}
 use Prim.Native.Nat.{◌-◌}
 use lib.ListN.{length}
-use borrow.Author.Rules.{rules}
-use borrow.Author.Tests.{not-true, not-false}
-use Rattle.guards.proofs.Guarding.{Guarding, conjunct-there, guarding_start, guarding_turn, guarding_stop, guarding_end}
+use Rattle.guards.proofs.Guarding.{Guarding}
 use Rattle.guards.proofs.guard.guard_holds.Given as goal
 
 abbrev pub invariant-loop-i : goal.invariant-loop-i

@@ -1,6 +1,5 @@
 -- `guards::guard::guard_passes` meets its contract: without conjuncts the loop of `guard_holds` would end at once, else it is `guard_holds`.
 use native.Mathlib.Omega.{arith}
-use borrow.Author.Rules.{rules}
 use Rattle.guards.proofs.Guarding.{guarding_start, guarding_end}
 use Rattle.guards.proofs.guard.guard_passes.Goals as goal
 

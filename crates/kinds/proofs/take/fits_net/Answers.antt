@@ -1,8 +1,7 @@
 -- `kinds::take::fits_net` meets its contract: the fields in the order of the definition, each looked at where those before it fit.
 use mathlib.Core.Path.{refl, sym, ◌∙◌}
 use native.Mathlib.Omega.{arith}
-use borrow.Author.Rules.{rules}
-use borrow.Author.Tests.{lt-ltb, le-ltb, not-true, not-false}
+use borrow.Author.Tests.{lt-ltb, le-ltb}
 use Rattle.word.proofs.Words.{bits-low}
 use Rattle.kinds.proofs.take.fits_net.Goals as goal
 

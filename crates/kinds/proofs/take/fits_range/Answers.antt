@@ -1,12 +1,8 @@
 -- `kinds::take::fits_range` meets its contract.
 use mathlib.Core.Path.{refl}
-use borrow.Author.Rules.{rules}
 use Rattle.word.proofs.Read.{read_back}
 use Rattle.word.proofs.Words.{bits-low}
 use Rattle.kinds.proofs.take.fits_range.Goals as goal
-
-pub signed-requires : goal.signed-requires
-signed-requires c = search rules
 
 pub returns : goal.returns
 returns c =

@@ -1,6 +1,5 @@
 -- `kinds::take::take` meets its contract: a law of Taking for each return.
 use native.Mathlib.Omega.{arith}
-use borrow.Author.Rules.{rules}
 use Rattle.kinds.proofs.Taking.{ends_early, too_long, other-kind, unfit, fit}
 use Rattle.kinds.proofs.take.take.Goals as goal
 

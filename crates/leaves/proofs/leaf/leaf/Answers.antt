@@ -1,5 +1,4 @@
 -- `leaves::leaf::leaf` meets its contract: each return is a rule of `Leafing`.
-use borrow.Author.Rules.{rules}
 use Rattle.gathering.proofs.Gathering.{keeps_all}
 use Rattle.leaves.proofs.Leafing.{leaf_over, leaf_disabled, leaf_added}
 use Rattle.leaves.proofs.leaf.leaf.Goals as goal

@@ -1,6 +1,5 @@
 -- `leaves::leaf::only_leaf` meets its contract: each return is a rule of `Leafing`.
 use mathlib.Core.Path.{refl}
-use borrow.Author.Rules.{rules}
 use Rattle.leaves.proofs.Leafing.{leaf_disabled, leaf_added}
 use Rattle.leaves.proofs.leaf.only_leaf.Goals as goal
 

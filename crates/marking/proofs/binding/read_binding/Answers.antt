@@ -1,6 +1,5 @@
 -- `marking::binding::read_binding` meets its contract: the rules of `Bound`.
 use Rattle.marking.proofs.Bound.{binding}
-use borrow.Author.Rules.{rules}
 use Rattle.marking.proofs.binding.read_binding.Goals as goal
 
 pub returns-then-next-words : goal.returns-then-next-words

@@ -1,11 +1,8 @@
 -- `marking::index::begin_all` meets its contract: what was written stays while the next is written.
-use mathlib.Core.Path.{◌≡◌, refl, ◌∙◌}
-use Prim.Native.Nat.{◌-◌, ◌≤◌}
-use lib.ListN.{length, length-set}
-use Rattle.marking.specs.Marked.{Begun}
+use mathlib.Core.Path.{refl, ◌∙◌}
+use lib.ListN.{length-set}
 use Rattle.marking.proofs.Rising.{begun-none, begun_turn, begun-end}
 use native.Mathlib.Omega.{arith}
-use borrow.Author.Rules.{rules}
 use Rattle.marking.proofs.index.begin_all.Goals as goal
 
 pub loop-p-init : goal.loop-p-init

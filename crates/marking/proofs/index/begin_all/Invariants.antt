@@ -1,11 +1,8 @@
 -- `marking::index::begin_all` meets its contract: what was written stays while the next is written.
-use mathlib.Core.Path.{◌≡◌, refl, ◌∙◌}
+use mathlib.Core.Path.{◌≡◌}
 use Prim.Native.Nat.{◌-◌, ◌≤◌}
-use lib.ListN.{length, length-set}
+use lib.ListN.{length}
 use Rattle.marking.specs.Marked.{Begun}
-use Rattle.marking.proofs.Rising.{begun-none, begun_turn, begun-end}
-use native.Mathlib.Omega.{arith}
-use borrow.Author.Rules.{rules}
 use Rattle.marking.proofs.index.begin_all.Given as goal
 
 abbrev pub invariant-loop-p : goal.invariant-loop-p

@@ -1,14 +1,11 @@
 -- `marking::index::read_marking` meets its contract: the loop of `Rising`. The table that is lent keeps its length.
 use mathlib.Core.Bool.{not}
 use mathlib.Core.Path.{sym, ◌∙◌, ap}
-use Prim.Native.Nat.{◌-◌}
-use lib.ListN.{length, length-set}
+use lib.ListN.{length-set}
 use lib.Seq.{get_or-set_same}
-use Rattle.net.specs.Places.{places_at}
 use Rattle.net.proofs.Placed.{places-length}
-use Rattle.marking.proofs.Rising.{SoFar, so_far_start, entry_ends, marking_ends, marking_goes, indexing}
+use Rattle.marking.proofs.Rising.{so_far_start, entry_ends, marking_ends, marking_goes, indexing}
 use native.Mathlib.Omega.{arith}
-use borrow.Author.Rules.{rules}
 use Rattle.marking.proofs.index.read_marking.Goals as goal
 
 pub bounds-begins-0 : goal.bounds-begins-0

@@ -2,7 +2,6 @@
 use mathlib.Core.Path.{refl, sym}
 use lib.Seq.{length-take-le}
 use native.Mathlib.Omega.{arith}
-use borrow.Author.Rules.{rules}
 use Rattle.marking.proofs.index.read_marking_in.Goals as goal
 
 pub returns-then-buffer-m : goal.returns-then-buffer-m

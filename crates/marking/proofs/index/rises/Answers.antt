@@ -1,7 +1,6 @@
 -- `marking::index::rises` meets its contract: the places decide, or the colours where they are the same.
 use Rattle.marking.proofs.Rising.{ordering}
 use native.Mathlib.Omega.{arith}
-use borrow.Author.Rules.{rules}
 use Rattle.marking.proofs.index.rises.Goals as goal
 
 pub returns-then-at-eq0 : goal.returns-then-at-eq0

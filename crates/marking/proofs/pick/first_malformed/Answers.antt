@@ -1,12 +1,9 @@
 -- `marking::pick::first_malformed` meets its contract: the loop of `First`.
 use mathlib.Core.Path.{sym, ap, ◌∙◌}
 use mathlib.Core.Bool.{not}
-use Prim.Native.Nat.{◌-◌}
-use lib.ListN.{length}
 use Rattle.semantics.specs.Marking.{is_pick}
-use Rattle.marking.proofs.First.{Looking, looking_start, looking_found, looking_turn, looking_end}
+use Rattle.marking.proofs.First.{looking_start, looking_found, looking_turn, looking_end}
 use native.Mathlib.Omega.{arith}
-use borrow.Author.Rules.{rules}
 use Rattle.marking.proofs.pick.first_malformed.Goals as goal
 
 pub loop-i-init : goal.loop-i-init

@@ -1,13 +1,10 @@
 -- `marking::pick::first_unknown` meets its contract: the loop of `First`.
-use mathlib.Core.Path.{sym, ◌∙◌}
 use mathlib.Core.Bool.{◌&&◌}
 use Prim.Native.Nat.{◌-◌}
 use lib.Dec.{leb}
 use lib.ListN.{length}
 use Rattle.semantics.specs.Marking.{is_pick, pick_transition}
-use Rattle.marking.proofs.First.{Looking, looking_start, looking_found, looking_turn, looking_end}
-use native.Mathlib.Omega.{arith}
-use borrow.Author.Rules.{rules}
+use Rattle.marking.proofs.First.{Looking}
 use Rattle.marking.proofs.pick.first_unknown.Given as goal
 
 abbrev pub invariant-loop-i : goal.invariant-loop-i

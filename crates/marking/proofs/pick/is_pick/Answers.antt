@@ -1,6 +1,5 @@
 -- `marking::pick::is_pick` meets its contract: the kind, then the bits.
 use Rattle.marking.proofs.First.{other-kind, pick-kind}
-use borrow.Author.Rules.{rules}
 use Rattle.marking.proofs.pick.is_pick.Goals as goal
 
 pub returns-then-kind-ne13 : goal.returns-then-kind-ne13

@@ -3,7 +3,6 @@ use mathlib.Core.Bool.{not}
 use mathlib.Core.Path.{ap}
 use Rattle.marking.proofs.First.{no_pick, a_pick}
 use native.Mathlib.Omega.{arith}
-use borrow.Author.Rules.{rules}
 use Rattle.marking.proofs.pick.is_unknown.Goals as goal
 
 pub returns-then-not-is_pick : goal.returns-then-not-is_pick

@@ -1,7 +1,6 @@
 -- `matches::colour::match_colour` meets its contract: the loop keeps `Agreeing`; where a component differs, the slots are what was kept of them.
 use mathlib.Core.Path.{sym, ap, ◌∙◌, subst}
-use mathlib.Core.Logic.{⊎_elim}
-use Prim.Native.Nat.{ℕ, ◌-◌, ◌+◌, ◌%◌}
+use Prim.Native.Nat.{ℕ}
 use native.Mathlib.Omega.{arith}
 use borrow.Author.Rules.{rules}
 use lib.IntN.{ℤ}
@@ -12,7 +11,7 @@ use Rattle.net.specs.Places.{ranges_from}
 use Rattle.tries.specs.Partial.{partial_of}
 use Rattle.matches.specs.Met.{part_try, IsMet}
 use Rattle.tries.proofs.Slots.{tried_on, tried_back}
-use Rattle.matches.proofs.Agreeing.{Agreeing, held_start, held_stops, held_agrees, held_takes, held_same, takes_inside, held_ends}
+use Rattle.matches.proofs.Agreeing.{held_start, held_stops, held_agrees, held_takes, held_same, takes_inside, held_ends}
 use Rattle.matches.proofs.colour.match_colour.Goals as goal
 use Rattle.matches.proofs.colour.match_colour.Goals.{in-Agrees, in-Takes}
 
@@ -47,8 +46,9 @@ bounds-slots-n c = let t = takes_inside c.loop-i.invariant (let l = c.requires.p
 pub loop-i-preserved : goal.loop-i-preserved
 loop-i-preserved c =
     elim c.match-meet_part.branch [
-      in-Agrees v ↦ held_same v.slots-is (held_agrees c.loop-i.invariant (let l = c.requires.parts_len in let w = c.requires.width_bound.0 in omega arith) c.loop-i-test.true (subst (λ (z : ℤ). IsMet c.args.variables c.loop-i.slots (part_try (ranges_from c.args.net.now c.args.variables c.args.ranges) (get_or c.args.parts.now c.loop-i.i 0) z (partial_of c.args.variables c.loop-i.slots)) c.meet_part.result) c.signed.ensures.0 (simp (read_back c.signed.result c.signed.type_inv) at c.meet_part.ensures)) v.in-Agrees.is)
-      | in-Takes v ↦ held_same v.slots-is (held_takes c.loop-i.invariant (let l = c.requires.parts_len in let w = c.requires.width_bound.0 in omega arith) c.loop-i-test.true (subst (λ (z : ℤ). IsMet c.args.variables c.loop-i.slots (part_try (ranges_from c.args.net.now c.args.variables c.args.ranges) (get_or c.args.parts.now c.loop-i.i 0) z (partial_of c.args.variables c.loop-i.slots)) c.meet_part.result) c.signed.ensures.0 (simp (read_back c.signed.result c.signed.type_inv) at c.meet_part.ensures)) v.in-Takes.is) ]
+      | in-Agrees v ↦ held_same v.slots-is (held_agrees c.loop-i.invariant (let l = c.requires.parts_len in let w = c.requires.width_bound.0 in omega arith) c.loop-i-test.true (subst (λ (z : ℤ). IsMet c.args.variables c.loop-i.slots (part_try (ranges_from c.args.net.now c.args.variables c.args.ranges) (get_or c.args.parts.now c.loop-i.i 0) z (partial_of c.args.variables c.loop-i.slots)) c.meet_part.result) c.signed.ensures.0 (simp (read_back c.signed.result c.signed.type_inv) at c.meet_part.ensures)) v.in-Agrees.is)
+      | in-Takes v ↦ held_same v.slots-is (held_takes c.loop-i.invariant (let l = c.requires.parts_len in let w = c.requires.width_bound.0 in omega arith) c.loop-i-test.true (subst (λ (z : ℤ). IsMet c.args.variables c.loop-i.slots (part_try (ranges_from c.args.net.now c.args.variables c.args.ranges) (get_or c.args.parts.now c.loop-i.i 0) z (partial_of c.args.variables c.loop-i.slots)) c.meet_part.result) c.signed.ensures.0 (simp (read_back c.signed.result c.signed.type_inv) at c.meet_part.ensures)) v.in-Takes.is)
+    ]
 
 pub shape_of-slots : goal.shape_of-slots
 shape_of-slots c = c.loop-i.invariant.full ∙ sym c.requires.slots_len.0

@@ -4,7 +4,7 @@ use mathlib.Core.Path.{ap}
 use mir.Syntax.{w32}
 use mir.Val.{SFits}
 use mir.Facts.{to_z-of_z}
-use borrow.Author.Rules.{rules, sfits_of}
+use borrow.Author.Rules.{sfits_of}
 use Rattle.matches.proofs.Agreeing.{met_beyond, met_old, met_outside, met_takes}
 use Rattle.matches.proofs.colour.meet_variable.Goals as goal
 

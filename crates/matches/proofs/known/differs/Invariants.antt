@@ -1,7 +1,5 @@
 -- `matches::known::differs` meets its contract: where it says yes, the component that it looks at differs. The loop has nothing to keep.
 use Prim.Native.Nat.{◌-◌}
-use native.Mathlib.Omega.{arith}
-use borrow.Author.Rules.{rules}
 use Rattle.matches.proofs.known.differs.Given as goal
 
 abbrev pub invariant-loop-i : goal.invariant-loop-i

@@ -1,5 +1,4 @@
 -- `matches::known::known_part` meets its contract: each arm is a rule of `Knowing`.
-use borrow.Author.Rules.{rules}
 use Rattle.tries.specs.Partial.{partial_of}
 use Rattle.matches.proofs.Knowing.{known-not, known_constant, known-variable}
 use Rattle.matches.proofs.known.known_part.Goals as goal

@@ -1,10 +1,7 @@
 -- `matches::known::known_parts` meets its contract: the words so far are known, those ahead are 0 as they were lent and say nothing.
-use mathlib.Core.Path.{◌≡◌, refl, ◌∙◌}
-use Prim.Native.Nat.{◌-◌}
+use mathlib.Core.Path.{refl, ◌∙◌}
 use native.Mathlib.Omega.{arith}
-use borrow.Author.Rules.{rules}
-use lib.ListN.{length, length-set}
-use Rattle.matches.specs.Known.{Knows}
+use lib.ListN.{length-set}
 use Rattle.matches.proofs.Knowing.{knows_nothing, knows_more}
 use Rattle.matches.proofs.known.known_parts.Goals as goal
 

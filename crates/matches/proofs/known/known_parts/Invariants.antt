@@ -1,11 +1,8 @@
 -- `matches::known::known_parts` meets its contract: the words so far are known, those ahead are 0 as they were lent and say nothing.
-use mathlib.Core.Path.{◌≡◌, refl, ◌∙◌}
+use mathlib.Core.Path.{◌≡◌}
 use Prim.Native.Nat.{◌-◌}
-use native.Mathlib.Omega.{arith}
-use borrow.Author.Rules.{rules}
-use lib.ListN.{length, length-set}
+use lib.ListN.{length}
 use Rattle.matches.specs.Known.{Knows}
-use Rattle.matches.proofs.Knowing.{knows_nothing, knows_more}
 use Rattle.matches.proofs.known.known_parts.Given as goal
 
 abbrev pub invariant-loop-i : goal.invariant-loop-i

@@ -1,5 +1,4 @@
 -- `matches::known::known_variable` meets its contract: a slot with a value is known, and of another nothing is said.
-use borrow.Author.Rules.{rules}
 use Rattle.matches.proofs.Knowing.{known-not, known_slot}
 use Rattle.matches.proofs.known.known_variable.Goals as goal
 

@@ -1,8 +1,5 @@
 -- `menus::menu::clear` meets its contract: the loop keeps `Cleared`.
-use Prim.Native.Nat.{◌-◌}
-use borrow.Author.Rules.{rules}
-use lib.ListN.{length}
-use Rattle.menus.proofs.Clearing.{Cleared, cleared_start, cleared_turn, cleared_end}
+use Rattle.menus.proofs.Clearing.{cleared_start, cleared_turn, cleared_end}
 use Rattle.menus.proofs.menu.clear.Goals as goal
 
 pub loop-i-init : goal.loop-i-init

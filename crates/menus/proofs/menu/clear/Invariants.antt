@@ -1,8 +1,7 @@
 -- `menus::menu::clear` meets its contract: the loop keeps `Cleared`.
 use Prim.Native.Nat.{◌-◌}
-use borrow.Author.Rules.{rules}
 use lib.ListN.{length}
-use Rattle.menus.proofs.Clearing.{Cleared, cleared_start, cleared_turn, cleared_end}
+use Rattle.menus.proofs.Clearing.{Cleared}
 use Rattle.menus.proofs.menu.clear.Given as goal
 
 abbrev pub invariant-loop-i : goal.invariant-loop-i

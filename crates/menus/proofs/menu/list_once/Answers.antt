@@ -1,7 +1,6 @@
 -- `menus::menu::list_once` meets its contract: the positions that are left are at most eight, and they are those that are not spared.
 use mathlib.Core.Path.{refl, sym}
 use native.Mathlib.Omega.{arith}
-use borrow.Author.Rules.{rules}
 use lib.Seq.{length-take-le}
 use Rattle.search.proofs.Worlds.{few-inputs}
 use Rattle.plan_search.proofs.Sparing.{all_within}

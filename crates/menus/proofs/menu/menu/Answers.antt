@@ -2,7 +2,6 @@
 -- their length.
 use mathlib.Core.Path.{◌≡◌, sym}
 use native.Mathlib.Omega.{arith}
-use borrow.Author.Rules.{rules}
 use lib.ListN.{length}
 use lib.Seq.{length-take-le}
 use Rattle.menus.proofs.Menus.{menu-refused, prepared_world, menu-listed}

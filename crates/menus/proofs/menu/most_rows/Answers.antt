@@ -1,5 +1,4 @@
 -- `menus::menu::most_rows` meets its contract: by the test of the width.
-use borrow.Author.Rules.{rules}
 use Rattle.menus.proofs.Listing.{most_none, most_some}
 use Rattle.menus.proofs.menu.most_rows.Goals as goal
 

@@ -1,8 +1,7 @@
 -- `moving::begins::move_begins` meets its contract: the loop of `Moving`, a row or a place at a time.
 use Prim.Native.Nat.{◌+◌, ◌-◌}
 use lib.ListN.{length}
-use native.Mathlib.Omega.{arith}
-use Rattle.moving.proofs.Moving.{Moving, moving-start, start-low, row-there, row_old, row_new, moving-row, place-room, place-enough, moving-place, moving-end}
+use Rattle.moving.proofs.Moving.{Moving}
 use Rattle.moving.proofs.begins.move_begins.Given as goal
 
 abbrev pub invariant-loop-p : goal.invariant-loop-p

@@ -1,5 +1,4 @@
 -- `moving::begins::row_place` meets its contract: by whether there is such a row.
-use borrow.Author.Rules.{rules}
 use borrow.Author.Tests.{lt-ltb, le-ltb}
 use Rattle.moving.proofs.begins.row_place.Goals as goal
 

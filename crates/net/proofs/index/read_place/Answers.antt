@@ -1,5 +1,4 @@
 -- `net::index::read_place` meets its contract: its word and its ranges, by the rules of `Nets`.
-use borrow.Author.Rules.{rules}
 use Rattle.net.proofs.Nets.{netting}
 use Rattle.net.proofs.index.read_place.Goals as goal
 

@@ -1,10 +1,8 @@
 -- `net::index::read_places` meets its contract: the loop of `Nets` over places.
 use native.Mathlib.Omega.{arith}
-use mathlib.Core.Path.{◌≡◌, refl, ◌∙◌}
-use Prim.Native.Nat.{◌-◌}
-use borrow.Author.Rules.{rules}
-use lib.ListN.{length, length-set}
-use Rattle.net.proofs.Nets.{Placed, placed-start, placed_goes, netting}
+use mathlib.Core.Path.{refl, ◌∙◌}
+use lib.ListN.{length-set}
+use Rattle.net.proofs.Nets.{placed-start, placed_goes, netting}
 use Rattle.net.proofs.index.read_places.Goals as goal
 
 pub loop-i-init : goal.loop-i-init

@@ -1,10 +1,8 @@
 -- `net::index::read_places` meets its contract: the loop of `Nets` over places.
-use native.Mathlib.Omega.{arith}
-use mathlib.Core.Path.{◌≡◌, refl, ◌∙◌}
+use mathlib.Core.Path.{◌≡◌}
 use Prim.Native.Nat.{◌-◌}
-use borrow.Author.Rules.{rules}
-use lib.ListN.{length, length-set}
-use Rattle.net.proofs.Nets.{Placed, placed-start, placed_goes, netting}
+use lib.ListN.{length}
+use Rattle.net.proofs.Nets.{Placed}
 use Rattle.net.proofs.index.read_places.Given as goal
 
 abbrev pub invariant-loop-i : goal.invariant-loop-i

@@ -1,6 +1,5 @@
 -- `net::index::refusal_of` meets its contract: each arm is one of `refusal_of`'s.
 use mathlib.Core.Path.{sym, ap}
-use borrow.Author.Rules.{rules}
 use Rattle.net.specs.Index.{refusal_of}
 use Rattle.net.proofs.index.refusal_of.Goals as goal
 

@@ -1,11 +1,6 @@
 -- `net::skim::skip_arc` meets its contract: the rules of `Structures`, one for each arm.
-use borrow.Author.Rules.{rules}
 use Rattle.net.proofs.Structures.{passing}
 use Rattle.net.proofs.skim.skip_arc.Goals as goal
-
--- src/skim.rt:36:11
-pub take-requires : goal.take-requires
-take-requires c = search rules
 
 -- src/skim.rt:40:17
 pub returns-then-widths-place : goal.returns-then-widths-place

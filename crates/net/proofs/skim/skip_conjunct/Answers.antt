@@ -1,11 +1,6 @@
 -- `net::skim::skip_conjunct` meets its contract: the rules of `Structures`, one for each arm.
-use borrow.Author.Rules.{rules}
 use Rattle.net.proofs.Structures.{passing}
 use Rattle.net.proofs.skim.skip_conjunct.Goals as goal
-
--- src/skim.rt:55:11
-pub take-requires : goal.take-requires
-take-requires c = search rules
 
 -- src/skim.rt:56:67
 pub overflow_add-at : goal.overflow_add-at

@@ -1,9 +1,6 @@
 -- `net::skim::skip_expressions` meets its contract: the loop of `Loops` over the reader of an expression.
 use native.Mathlib.Omega.{arith}
-use Prim.Native.Nat.{◌-◌}
-use borrow.Author.Rules.{rules}
-use Rattle.net.specs.Skim.{skim_expression}
-use Rattle.net.proofs.Loops.{Ahead, ahead_start, looping}
+use Rattle.net.proofs.Loops.{ahead_start, looping}
 use Rattle.net.proofs.skim.skip_expressions.Goals as goal
 
 pub loop-i-init : goal.loop-i-init

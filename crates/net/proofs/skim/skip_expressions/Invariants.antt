@@ -1,9 +1,7 @@
 -- `net::skim::skip_expressions` meets its contract: the loop of `Loops` over the reader of an expression.
-use native.Mathlib.Omega.{arith}
 use Prim.Native.Nat.{◌-◌}
-use borrow.Author.Rules.{rules}
 use Rattle.net.specs.Skim.{skim_expression}
-use Rattle.net.proofs.Loops.{Ahead, ahead_start, looping}
+use Rattle.net.proofs.Loops.{Ahead}
 use Rattle.net.proofs.skim.skip_expressions.Given as goal
 
 abbrev pub invariant-loop-i : goal.invariant-loop-i

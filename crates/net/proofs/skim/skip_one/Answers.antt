@@ -1,11 +1,6 @@
 -- `net::skim::skip_one` meets its contract: the rules of `Structures`, one for each kind.
-use borrow.Author.Rules.{rules}
 use Rattle.net.proofs.Structures.{passing}
 use Rattle.net.proofs.skim.skip_one.Goals as goal
-
--- src/skim.rt:69:14
-pub skip_arc-requires : goal.skip_arc-requires
-skip_arc-requires c = search rules
 
 -- src/skim.rt:72:45
 pub overflow_add-result : goal.overflow_add-result

@@ -1,9 +1,6 @@
 -- `net::skim::skip_ranges` meets its contract: the loop of `Loops` over the reader of a RANGE word.
 use native.Mathlib.Omega.{arith}
-use Prim.Native.Nat.{◌-◌}
-use borrow.Author.Rules.{rules}
-use Rattle.net.specs.Skim.{skim_range}
-use Rattle.net.proofs.Loops.{Ahead, ahead_start, looping}
+use Rattle.net.proofs.Loops.{ahead_start, looping}
 use Rattle.net.proofs.Structures.{passing}
 use Rattle.net.proofs.skim.skip_ranges.Goals as goal
 

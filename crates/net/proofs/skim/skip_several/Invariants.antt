@@ -1,9 +1,7 @@
 -- `net::skim::skip_several` meets its contract: the loop of `Tables` that fills a part of a table, over the reader of one structure.
-use native.Mathlib.Omega.{arith}
 use Prim.Native.Nat.{◌-◌}
-use borrow.Author.Rules.{rules}
 use Rattle.net.specs.Skim.{skim_one}
-use Rattle.net.proofs.Tables.{Filled, filled_start, from-refused, written-long, filled_goes, filled_stops, filled_end}
+use Rattle.net.proofs.Tables.{Filled}
 use Rattle.net.proofs.skim.skip_several.Given as goal
 
 abbrev pub invariant-loop-i : goal.invariant-loop-i

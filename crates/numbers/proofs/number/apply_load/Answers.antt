@@ -1,15 +1,8 @@
 -- `numbers::number::apply_load` meets its contract.
 use mathlib.Core.Path.{refl}
 use mathlib.Core.Option.{bind}
-use borrow.Author.Rules.{rules}
 use Rattle.word.proofs.Read.{read_back}
 use Rattle.numbers.proofs.number.apply_load.Goals as goal
-
-pub enum_known-x : goal.enum_known-x
-enum_known-x c = search rules
-
-pub enum_told-1 : goal.enum_told-1
-enum_told-1 c = search rules
 
 pub returns-in-Some : goal.returns-in-Some
 unfolding bind

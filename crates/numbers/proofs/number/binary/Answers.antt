@@ -1,11 +1,7 @@
 -- `numbers::number::binary` meets its contract: each arm's operator is that of its code.
 use mir.Facts.{to_z-of_z}
-use borrow.Author.Rules.{rules}
 use borrow.Author.Tests.{ne_eqb}
 use Rattle.numbers.proofs.number.binary.Goals as goal
-
-pub add-requires : goal.add-requires
-add-requires c = search rules
 
 pub returns-in-0 : goal.returns-in-0
 returns-in-0 c = let f = c.ranges in rw c.in-0.is (simp (to_z-of_z f.x, to_z-of_z f.y) at c.add.ensures)

@@ -1,10 +1,6 @@
 -- `numbers::number::compared` meets its contract: two sides with values go to `related`, and any other pair fails.
-use borrow.Author.Rules.{rules}
 use Rattle.word.proofs.Read.{read_back}
 use Rattle.numbers.proofs.number.compared.Goals as goal
-
-pub enum_known-x : goal.enum_known-x
-enum_known-x c = search rules
 
 pub returns-in-Some-y : goal.returns-in-Some-y
 returns-in-Some-y c =

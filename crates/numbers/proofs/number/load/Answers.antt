@@ -1,7 +1,6 @@
 -- `numbers::number::load` meets its contract: a depth of 0 or more is its mag.
 use mathlib.Core.Path.{refl}
 use native.Mathlib.Omega.{arith}
-use borrow.Author.Rules.{rules}
 use Rattle.semantics.specs.Expression.{load_of}
 use Rattle.word.proofs.Read.{negative, natural, read_natural, read_back}
 use Rattle.numbers.proofs.Loads.{load_at, load_past}

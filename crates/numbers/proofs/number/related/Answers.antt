@@ -2,12 +2,8 @@
 use mathlib.Core.Path.{ap}
 use mathlib.Core.Bool.{not}
 use mir.Facts.{to_z-of_z}
-use borrow.Author.Rules.{rules}
 use borrow.Author.Tests.{ne_eqb}
 use Rattle.numbers.proofs.number.related.Goals as goal
-
-pub equal-requires : goal.equal-requires
-equal-requires c = search rules
 
 pub returns-in-0 : goal.returns-in-0
 returns-in-0 c = let f = c.ranges in rw c.in-0.is (simp (to_z-of_z f.x, to_z-of_z f.y) at c.equal.ensures)

@@ -1,10 +1,7 @@
 -- `occurrence::cover::covers` meets its contract: the loop of `Covering` over keys; a key that repeats the one before it is covered as that one.
 use mathlib.Core.Path.{sym, ◌∙◌}
-use Prim.Native.Nat.{◌-◌}
-use lib.ListN.{length}
 use native.Mathlib.Omega.{arith}
-use borrow.Author.Rules.{rules}
-use Rattle.occurrence.proofs.Covering.{Covering, covering_start, covering_again, covering_short, covering_turn, covering_end, fits_in}
+use Rattle.occurrence.proofs.Covering.{covering_start, covering_again, covering_short, covering_turn, covering_end, fits_in}
 use Rattle.occurrence.proofs.cover.covers.Goals as goal
 
 pub loop-i-init : goal.loop-i-init

@@ -1,5 +1,4 @@
 -- `occurrence::cover::repeats` meets its contract: the first key has none before it, and another is held against the one before.
-use borrow.Author.Rules.{rules}
 use borrow.Author.Tests.{le-leb}
 use native.Mathlib.Omega.{arith}
 use Rattle.occurrence.proofs.cover.repeats.Goals as goal

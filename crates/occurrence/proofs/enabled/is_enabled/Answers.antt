@@ -1,6 +1,5 @@
 -- `occurrence::enabled::is_enabled` meets its contract: what is taken is some just where the binding is enabled.
 use mathlib.Core.Path.{refl}
-use borrow.Author.Rules.{rules}
 use Rattle.occurrence.proofs.enabled.is_enabled.Goals as goal
 
 pub taken-all-requires : goal.taken-all-requires

@@ -1,7 +1,5 @@
 -- `offers::lines::put_rows` meets its contract: the loop keeps the lines that are left.
-use native.Mathlib.Omega.{arith}
-use borrow.Author.Rules.{rules}
-use Rattle.offers.proofs.Bindings.{LinesLeft, lines_all, lines_inside, lines_none, lines_again}
+use Rattle.offers.proofs.Bindings.{LinesLeft}
 use Rattle.offers.proofs.lines.put_rows.Given as goal
 
 abbrev pub invariant-loop-left : goal.invariant-loop-left

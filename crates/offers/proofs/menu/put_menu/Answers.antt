@@ -1,6 +1,5 @@
 -- `offers::menu::put_menu` meets its contract: each return is a rule of `Menus`.
 use Prim.Native.Nat.{ℕ}
-use borrow.Author.Rules.{rules}
 use lib.ListN.{length-replicate}
 use Rattle.offers.proofs.Menus.{found-room, found-text, withheld-text}
 use Rattle.offers.proofs.menu.put_menu.Goals as goal

@@ -1,7 +1,6 @@
 -- `patch::entry::digit_word` meets its contract: `digit-written`.
 use mathlib.Core.Path.{refl}
 use Rattle.patch.proofs.Writing.{digit-written}
-use borrow.Author.Rules.{rules}
 use Rattle.patch.proofs.entry.digit_word.Goals as goal
 
 pub returns : goal.returns

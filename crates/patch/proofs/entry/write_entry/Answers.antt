@@ -3,7 +3,6 @@ use mathlib.Core.Path.{◌∙◌}
 use native.Mathlib.Omega.{arith}
 use lib.ListN.{length-set}
 use Rattle.patch.proofs.Writing.{none_written, entry_length, entry_written}
-use borrow.Author.Rules.{rules}
 use Rattle.patch.proofs.entry.write_entry.Goals as goal
 
 pub returns-then-count-eq0 : goal.returns-then-count-eq0

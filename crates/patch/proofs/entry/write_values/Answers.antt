@@ -1,6 +1,6 @@
 -- `patch::entry::write_values` meets its contract: the loop of `Writing` over the digits of the code, the last one first.
 use native.Mathlib.Omega.{arith}
-use Rattle.patch.proofs.Writing.{Filling, filling_start, filling_turn, filling_end}
+use Rattle.patch.proofs.Writing.{filling_start, filling_turn, filling_end}
 use Rattle.patch.proofs.entry.write_values.Goals as goal
 
 pub loop-j-init : goal.loop-j-init

@@ -1,8 +1,8 @@
 -- `patch::words::copy_words` meets its contract: the words copied so far are the first of the part.
-use mathlib.Core.Path.{◌≡◌, refl, ◌∙◌}
-use Prim.Native.Nat.{◌-◌, ◌+◌, ◌≤◌}
-use lib.ListN.{length, get_or, length-set}
-use lib.Seq.{slice, paste, paste-zero}
+use mathlib.Core.Path.{refl, ◌∙◌}
+use Prim.Native.Nat.{◌+◌}
+use lib.ListN.{get_or, length-set}
+use lib.Seq.{slice, paste-zero}
 use Rattle.patch.proofs.Writing.{copy_turn, copy_end}
 use native.Mathlib.Omega.{arith}
 use Rattle.patch.proofs.words.copy_words.Goals as goal

@@ -1,10 +1,8 @@
 -- `patch::words::copy_words` meets its contract: the words copied so far are the first of the part.
-use mathlib.Core.Path.{◌≡◌, refl, ◌∙◌}
-use Prim.Native.Nat.{◌-◌, ◌+◌, ◌≤◌}
-use lib.ListN.{length, get_or, length-set}
-use lib.Seq.{slice, paste, paste-zero}
-use Rattle.patch.proofs.Writing.{copy_turn, copy_end}
-use native.Mathlib.Omega.{arith}
+use mathlib.Core.Path.{◌≡◌}
+use Prim.Native.Nat.{◌-◌, ◌≤◌}
+use lib.ListN.{length}
+use lib.Seq.{slice, paste}
 use Rattle.patch.proofs.words.copy_words.Given as goal
 
 abbrev pub invariant-loop-j : goal.invariant-loop-j

@@ -1,7 +1,6 @@
 -- `picks::pick::fire_at` meets its contract: each return is a rule of `Firing`.
 use mathlib.Core.Path.{sym}
 use native.Mathlib.Omega.{arith}
-use borrow.Author.Rules.{rules}
 use lib.Seq.{length-take-le}
 use Rattle.firing.proofs.Firing.{enabled_at}
 use Rattle.picks.proofs.Firing.{fired-refused, written-fits, copy_fits, fired-written}

@@ -3,7 +3,6 @@ use mathlib.Core.Path.{sym}
 use native.Mathlib.Omega.{arith}
 use lib.Seq.{length-take-le}
 use Rattle.picks.proofs.Firing.{row-fires, row-fired}
-use borrow.Author.Rules.{rules}
 use Rattle.picks.proofs.pick.fire_row.Goals as goal
 
 pub slice_bounds-fire_at-end : goal.slice_bounds-fire_at-end

@@ -3,7 +3,6 @@ use mathlib.Core.Path.{sym}
 use native.Mathlib.Omega.{arith}
 use lib.Seq.{length-take-le}
 use Rattle.picks.proofs.Firing.{parts-listed, arcs-tested}
-use borrow.Author.Rules.{rules}
 use Rattle.picks.proofs.pick.list_menu.Goals as goal
 
 pub slice_bounds-list_bindings-end-2 : goal.slice_bounds-list_bindings-end-2

@@ -1,7 +1,6 @@
 -- `plan_search::plan::search_plan` meets its contract: at the end of an empty plan by the rules of a leaf, else as `walk`.
 use mathlib.Core.Path.{refl, sym}
 use native.Mathlib.Omega.{arith}
-use borrow.Author.Rules.{rules}
 use Rattle.search.proofs.Worlds.{few-inputs}
 use Rattle.plan_search.proofs.Sparing.{settling}
 use Rattle.plan_search.proofs.OnlyLeaf.{only-handed, walked_leaf}

@@ -1,5 +1,4 @@
 -- `plans::plan::first_of` meets its contract: each arm is one of `first_of`'s in semantics.
-use borrow.Author.Rules.{rules}
 use Rattle.plans.proofs.plan.first_of.Goals as goal
 
 pub returns-in-At : goal.returns-in-At

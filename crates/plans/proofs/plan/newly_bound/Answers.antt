@@ -1,11 +1,6 @@
 -- `plans::plan::newly_bound` meets its contract: one arm for each sort of element.
-use borrow.Author.Rules.{rules}
 use Rattle.plans.proofs.Faults.{faults}
 use Rattle.plans.proofs.plan.newly_bound.Goals as goal
-
--- the arc is one of the transition
-pub bounds-inputs-k : goal.bounds-inputs-k
-bounds-inputs-k c = search rules
 
 pub returns-then-inputs-k : goal.returns-then-inputs-k
 returns-then-inputs-k c = search faults

@@ -1,12 +1,7 @@
 -- `plans::plan::plan_fault` meets its contract: no element so far is at fault, and the marks stay eight.
-use mathlib.Core.Path.{◌≡◌, refl, sym, ◌∙◌}
-use Prim.Native.Nat.{◌-◌}
+use mathlib.Core.Path.{refl, sym, ◌∙◌}
 use native.Mathlib.Omega.{arith}
-use lib.ListN.{length}
-use borrow.Author.Rules.{rules}
-use borrow.Author.Tests.{not-true, not-false}
-use Rattle.plans.specs.Fitness.{plan_parts}
-use Rattle.plans.proofs.Faults.{Planned, planned_start, plan_unfit, plan_turn, faults}
+use Rattle.plans.proofs.Faults.{planned_start, plan_unfit, plan_turn, faults}
 use Rattle.plans.proofs.plan.plan_fault.Goals as goal
 
 pub loop-i-init : goal.loop-i-init

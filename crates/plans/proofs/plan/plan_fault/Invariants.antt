@@ -1,12 +1,9 @@
 -- `plans::plan::plan_fault` meets its contract: no element so far is at fault, and the marks stay eight.
-use mathlib.Core.Path.{◌≡◌, refl, sym, ◌∙◌}
+use mathlib.Core.Path.{◌≡◌}
 use Prim.Native.Nat.{◌-◌}
-use native.Mathlib.Omega.{arith}
 use lib.ListN.{length}
-use borrow.Author.Rules.{rules}
-use borrow.Author.Tests.{not-true, not-false}
 use Rattle.plans.specs.Fitness.{plan_parts}
-use Rattle.plans.proofs.Faults.{Planned, planned_start, plan_unfit, plan_turn, faults}
+use Rattle.plans.proofs.Faults.{Planned}
 use Rattle.plans.proofs.plan.plan_fault.Given as goal
 
 abbrev pub invariant-loop-i : goal.invariant-loop-i

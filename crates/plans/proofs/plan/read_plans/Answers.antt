@@ -1,11 +1,9 @@
 -- `plans::plan::read_plans` meets its contract: the fault so far is the first of the transitions read so far, and the parts of those that are kept stand
 -- before those that are read next.
 use native.Mathlib.Omega.{arith}
-use mathlib.Core.Path.{◌≡◌, refl, ◌∙◌}
-use Prim.Native.Nat.{◌-◌}
-use borrow.Author.Rules.{rules}
-use lib.ListN.{length, length-set}
-use Rattle.plans.proofs.Faults.{Reviewing, reviewing_start, reviewing_goes, reviewing_stops, reviewing_end}
+use mathlib.Core.Path.{refl, ◌∙◌}
+use lib.ListN.{length-set}
+use Rattle.plans.proofs.Faults.{reviewing_start, reviewing_goes, reviewing_stops, reviewing_end}
 use Rattle.plans.proofs.plan.read_plans.Goals as goal
 
 pub loop-i-init : goal.loop-i-init

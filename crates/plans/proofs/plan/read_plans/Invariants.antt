@@ -1,11 +1,9 @@
 -- `plans::plan::read_plans` meets its contract: the fault so far is the first of the transitions read so far, and the parts of those that are kept stand
 -- before those that are read next.
-use native.Mathlib.Omega.{arith}
-use mathlib.Core.Path.{◌≡◌, refl, ◌∙◌}
+use mathlib.Core.Path.{◌≡◌}
 use Prim.Native.Nat.{◌-◌}
-use borrow.Author.Rules.{rules}
-use lib.ListN.{length, length-set}
-use Rattle.plans.proofs.Faults.{Reviewing, reviewing_start, reviewing_goes, reviewing_stops, reviewing_end}
+use lib.ListN.{length}
+use Rattle.plans.proofs.Faults.{Reviewing}
 use Rattle.plans.proofs.plan.read_plans.Given as goal
 
 abbrev pub invariant-loop-i : goal.invariant-loop-i

@@ -1,7 +1,6 @@
 -- `plans::plan::unbound` meets its contract: from the last variable down, those passed are bound.
 use native.Mathlib.Omega.{arith}
-use borrow.Author.Tests.{not-true, not-false}
-use Rattle.plans.proofs.Faults.{Bounded, bounded-start, bounded_turn, bounded-stop, faults}
+use Rattle.plans.proofs.Faults.{bounded-start, bounded_turn, bounded-stop, faults}
 use Rattle.plans.proofs.plan.unbound.Goals as goal
 
 pub loop-n-init : goal.loop-n-init

@@ -1,7 +1,5 @@
 -- `plans::plan::unbound` meets its contract: from the last variable down, those passed are bound.
-use native.Mathlib.Omega.{arith}
-use borrow.Author.Tests.{not-true, not-false}
-use Rattle.plans.proofs.Faults.{Bounded, bounded-start, bounded_turn, bounded-stop, faults}
+use Rattle.plans.proofs.Faults.{Bounded}
 use Rattle.plans.proofs.plan.unbound.Given as goal
 
 abbrev pub invariant-loop-n : goal.invariant-loop-n

@@ -1,5 +1,4 @@
 -- `printed::part::net_part` meets its contract: each return is a rule of `Parts`.
-use borrow.Author.Rules.{rules}
 use Rattle.semantics.proofs.Cut.{headed}
 use Rattle.printed.proofs.Parts.{net_past, net-refused, net_ready, net-menu}
 use Rattle.printed.proofs.part.net_part.Goals as goal

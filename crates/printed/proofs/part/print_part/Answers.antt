@@ -1,7 +1,6 @@
 -- `printed::part::print_part` meets its contract: the tests of `texts` in their order.
 use mathlib.Core.Path.{sym}
 use native.Mathlib.Omega.{arith}
-use borrow.Author.Rules.{rules}
 use lib.Seq.{length-take-le}
 use Rattle.printed.proofs.Parts.{told-long, told-spare, told-words}
 use Rattle.printed.proofs.part.print_part.Goals as goal

@@ -1,6 +1,5 @@
 -- `printed::part::refusal_part` meets its contract: the first part is the line, and there is no other.
 use native.Mathlib.Omega.{arith}
-use borrow.Author.Rules.{rules}
 use Rattle.printed.proofs.Parts.{part_none, part-first}
 use Rattle.printed.proofs.part.refusal_part.Goals as goal
 

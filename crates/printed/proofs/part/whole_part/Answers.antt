@@ -1,5 +1,4 @@
 -- `printed::part::whole_part` meets its contract: no part is longer than the buffer.
-use borrow.Author.Rules.{rules}
 use Rattle.printed.proofs.Whole.{part_uncut}
 use Rattle.printed.proofs.part.whole_part.Goals as goal
 

@@ -1,7 +1,6 @@
 -- `printed::part::words_part` meets its contract: the call split decides, and the net is cut where the words after it begin.
 use mathlib.Core.Path.{sym}
 use native.Mathlib.Omega.{arith}
-use borrow.Author.Rules.{rules}
 use lib.Seq.{length-take-le}
 use Rattle.printed.proofs.Parts.{words-refused, words_split, split_accepts, split_part}
 use Rattle.printed.proofs.part.words_part.Goals as goal

@@ -1,7 +1,6 @@
 -- `rests::keep::keep_rest` meets its contract: what is left stands at the front of the nine numbers, and how many at their end.
 use mathlib.Core.Path.{sym}
 use native.Mathlib.Omega.{arith}
-use borrow.Author.Rules.{rules}
 use lib.Seq.{length-take-le}
 use Rattle.rests.proofs.Resting.{rest-within, rest-few, rest-made}
 use Rattle.rests.proofs.keep.keep_rest.Goals as goal

@@ -1,12 +1,7 @@
 -- `rests::keep::keep_rests` meets its contract: the loop keeps that the numbers of the transitions so far stand in the table.
-use mathlib.Core.Path.{sym, ◌∙◌}
 use Prim.Native.Nat.{◌-◌}
-use native.Mathlib.Omega.{arith}
-use borrow.Author.Rules.{rules}
 use lib.ListN.{length}
 use Rattle.rests.specs.Rests.{RestsKept}
-use Rattle.rests.proofs.Chosen.{known-number, few, inside, room}
-use Rattle.rests.proofs.Resting.{rests_none, rests_next, rests_all, rests_more}
 use Rattle.rests.proofs.keep.keep_rests.Given as goal
 
 abbrev pub invariant-loop-t : goal.invariant-loop-t

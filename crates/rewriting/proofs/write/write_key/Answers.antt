@@ -1,6 +1,5 @@
 -- `rewriting::write::write_key` meets its contract: the entry of place, width and code of the key.
 use native.Mathlib.Omega.{arith}
-use borrow.Author.Rules.{rules}
 use Rattle.rewriting.proofs.write.write_key.Goals as goal
 
 pub write_entry-requires : goal.write_entry-requires

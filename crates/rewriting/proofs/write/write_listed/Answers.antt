@@ -3,7 +3,7 @@ use mathlib.Core.Path.{◌∙◌}
 use Prim.Native.Nat.{◌+◌, ◌-◌, ◌≤◌}
 use lib.ListN.{length, get_or}
 use native.Mathlib.Omega.{arith}
-use Rattle.rewriting.proofs.Writing.{Writing, writing_start, writing_inside, writing_room, writing_turn, writing_last, writing_end}
+use Rattle.rewriting.proofs.Writing.{writing_start, writing_inside, writing_room, writing_turn, writing_last, writing_end}
 use Rattle.rewriting.proofs.write.write_listed.Goals as goal
 
 pub loop-i-init : goal.loop-i-init

@@ -1,9 +1,6 @@
 -- `rewriting::write::write_listed` meets its contract: the loop of `Writing`, a row at a time.
-use mathlib.Core.Path.{◌∙◌}
-use Prim.Native.Nat.{◌+◌, ◌-◌, ◌≤◌}
-use lib.ListN.{length, get_or}
-use native.Mathlib.Omega.{arith}
-use Rattle.rewriting.proofs.Writing.{Writing, writing_start, writing_inside, writing_room, writing_turn, writing_last, writing_end}
+use Prim.Native.Nat.{◌-◌}
+use Rattle.rewriting.proofs.Writing.{Writing}
 use Rattle.rewriting.proofs.write.write_listed.Given as goal
 
 abbrev pub invariant-loop-i : goal.invariant-loop-i

@@ -1,7 +1,5 @@
 -- `rows::compare::compare_row` meets its contract: the loop of `Alike`.
-use Prim.Native.Nat.{◌-◌}
-use lib.ListN.{length}
-use Rattle.rows.proofs.Alike.{Alike, alike_start, alike_under, alike_over, alike_turn, alike_end, told}
+use Rattle.rows.proofs.Alike.{alike_start, alike_under, alike_over, alike_turn, alike_end, told}
 use native.Mathlib.Omega.{arith}
 use borrow.Author.Rules.{rules}
 use Rattle.rows.proofs.compare.compare_row.Goals as goal

@@ -1,9 +1,7 @@
 -- `rows::compare::compare_row` meets its contract: the loop of `Alike`.
 use Prim.Native.Nat.{◌-◌}
 use lib.ListN.{length}
-use Rattle.rows.proofs.Alike.{Alike, alike_start, alike_under, alike_over, alike_turn, alike_end, told}
-use native.Mathlib.Omega.{arith}
-use borrow.Author.Rules.{rules}
+use Rattle.rows.proofs.Alike.{Alike}
 use Rattle.rows.proofs.compare.compare_row.Given as goal
 
 abbrev pub invariant-loop-j : goal.invariant-loop-j

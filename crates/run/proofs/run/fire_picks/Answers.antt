@@ -1,10 +1,8 @@
 -- `run::run::fire_picks` meets its contract: the loop keeps what is so of the run so far, and each way out is a rule of `Running`.
 use mathlib.Core.Path.{refl, sym, ◌∙◌}
-use Prim.Native.Nat.{◌-◌}
 use borrow.Author.Rules.{rules}
-use lib.ListN.{length}
 use lib.Seq.{length-take-le}
-use Rattle.run.proofs.Running.{run_accepted, Sofar, sofar_first, sofar_ended, sofar_pickable, sofar_refused, sofar_fired}
+use Rattle.run.proofs.Running.{run_accepted, sofar_first, sofar_ended, sofar_pickable, sofar_refused, sofar_fired}
 use Rattle.run.proofs.run.fire_picks.Goals as goal
 
 pub keep_rests-requires : goal.keep_rests-requires

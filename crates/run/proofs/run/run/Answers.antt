@@ -1,8 +1,8 @@
 -- `run::run::run` meets its contract: each return is a rule of `Calling`.
-use mathlib.Core.Path.{◌≡◌, sym, ◌∙◌}
+use mathlib.Core.Path.{◌≡◌, sym}
 use native.Mathlib.Omega.{arith}
 use borrow.Author.Rules.{rules}
-use lib.ListN.{length, length-map}
+use lib.ListN.{length}
 use lib.Seq.{length-take-le}
 use Rattle.run.proofs.Calling.{run_unstarted, run_runnable, run_inside, run_ended}
 use Rattle.run.proofs.run.run.Goals as goal

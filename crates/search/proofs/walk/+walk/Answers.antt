@@ -7,19 +7,14 @@ use Rattle.tries.specs.Partial.{partial_of}
 use Rattle.leaves.specs.declared.progress.Progress.{Progress}
 use Rattle.search.proofs.Walking.{Onward, Went, onward, went, ended_same, tested-there, tested-few, leaf_handed, settled_leaf, aiming, stepping, known_same, try_on, try_off, try_left, known_behind, back, kept_of, noted_of}
 use Rattle.search.proofs.walk.+walk.Goals.{then-depth-elements, else-depth-elements, then-try_at+else-cur, else-try_at}
-use mathlib.Core.Logic.{⊎_elim}
-use Prim.Native.Nat.{ℕ, ◌+◌, ◌-◌, ◌<◌}
+use Prim.Native.Nat.{ℕ, ◌+◌}
 use native.Mathlib.Omega.{arith}
 use borrow.Author.Rules.{rules}
-use Rattle.semantics.specs.Expression.{house_table}
-use Rattle.semantics.specs.Tries.{tries}
-use Rattle.elements.specs.Bound.{sorted}
-use Rattle.rows.specs.Rows.{listing_of}
 use Rattle.gathering.specs.Gather.{Known}
 use Rattle.gathering.proofs.Gathering.{known_nothing, known_kept}
 use Rattle.search.specs.Scene.{scene_of}
 use Rattle.search.specs.Search.{cost_from, rows_from}
-use Rattle.search.proofs.Trying.{Trying, trying_start, ended_all, ended_spent, trying_skip, trying_same, ended-stop, trying_turn}
+use Rattle.search.proofs.Trying.{trying_start, ended_all, ended_spent, trying_skip, trying_same, ended-stop, trying_turn}
 use Rattle.search.proofs.Worlds.{few-variables, few_elements, ranges-fit, next-element}
 use Rattle.search.proofs.walk.+walk.Goals as goal
 

@@ -1,11 +1,8 @@
 -- `search::walk::walk` meets its contract: the loop keeps `Trying` over the tries of the element, the slots as they were, and what is known of the first
 -- arcs. A try that went on hands the same to a leaf as to a walk (`Onward`), and both leave the same of it (`Went`). The measure is the number of elements
 -- left.
-use mathlib.Core.Path.{◌≡◌, refl, sym, ap, ◌∙◌}
-use mathlib.Core.Logic.{⊎_elim}
-use Prim.Native.Nat.{ℕ, ◌+◌, ◌-◌, ◌<◌}
-use native.Mathlib.Omega.{arith}
-use borrow.Author.Rules.{rules}
+use mathlib.Core.Path.{◌≡◌}
+use Prim.Native.Nat.{◌+◌, ◌-◌}
 use lib.ListN.{length, drop}
 use Rattle.semantics.specs.Expression.{house_table}
 use Rattle.semantics.specs.Tries.{tries}
@@ -13,12 +10,9 @@ use Rattle.elements.specs.Bound.{sorted}
 use Rattle.rows.specs.Rows.{listing_of}
 use Rattle.tries.specs.Partial.{partial_of}
 use Rattle.gathering.specs.Gather.{Known}
-use Rattle.gathering.proofs.Gathering.{known_nothing, known_kept}
 use Rattle.search.specs.Scene.{scene_of}
 use Rattle.search.specs.Search.{cost_from, rows_from}
-use Rattle.search.proofs.Trying.{Trying, trying_start, ended_all, ended_spent, trying_skip, trying_same, ended-stop, trying_turn}
-use Rattle.search.proofs.Worlds.{few-variables, few_elements, ranges-fit, next-element}
-use Rattle.search.proofs.Walking.{Onward, Went, went, ended_same, tested-there, tested-few, leaf_handed, settled_leaf, aiming, stepping, known_same, try_on, try_off, try_left, known_behind, back, kept_of, noted_of}
+use Rattle.search.proofs.Trying.{Trying}
 use Rattle.search.proofs.walk.+walk.Given as goal
 
 abbrev pub decreases-walk : goal.decreases-walk

@@ -1,7 +1,6 @@
 -- `search::walk::element_at` meets its contract: the 28 bits of the word there.
 use mathlib.Core.Path.{ap, ◌∙◌}
 use Prim.Native.Nat.{ℕ}
-use borrow.Author.Rules.{rules}
 use Rattle.semantics.specs.Word.{bits}
 use Rattle.semantics.specs.ReadNet.{sort_of}
 use Rattle.search.proofs.walk.element_at.Goals as goal

@@ -1,6 +1,5 @@
 -- `solving::solve::bind_lone` meets its contract: the kind of the word decides.
 use mathlib.Core.Path.{refl, sym, ◌∙◌}
-use borrow.Author.Rules.{rules}
 use mir.Facts.{to_z-of_z}
 use Rattle.net.specs.Places.{ranges_from}
 use Rattle.tries.specs.Partial.{partial_of}

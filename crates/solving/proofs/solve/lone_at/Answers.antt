@@ -1,7 +1,6 @@
 -- `solving::solve::lone_at` meets its contract: a slot that is looked at, by `Solving`.
 use mathlib.Core.Path.{sym, ◌∙◌}
 use native.Mathlib.Omega.{arith}
-use borrow.Author.Rules.{rules}
 use Rattle.solving.proofs.Solving.{slot_bound, slot_unbound}
 use Rattle.solving.proofs.solve.lone_at.Goals as goal
 

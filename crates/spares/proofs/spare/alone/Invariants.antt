@@ -1,10 +1,7 @@
 -- `spares::spare::alone` meets its contract: each turn passes the arc itself or one with another ARC word.
-use mathlib.Core.Path.{refl}
 use Prim.Native.Nat.{◌-◌}
-use native.Mathlib.Omega.{arith}
 use lib.ListN.{length}
 use Rattle.spares.specs.Spare.{IsAlone}
-use Rattle.spares.proofs.Sparing.{sparing, alone_turn}
 use Rattle.spares.proofs.spare.alone.Given as goal
 
 abbrev pub invariant-loop-i : goal.invariant-loop-i

@@ -1,7 +1,5 @@
 -- `spares::spare::is_matched` meets its contract: a word that is found is that of the match.
-use Prim.Native.Nat.{◌-◌}
 use native.Mathlib.Omega.{arith}
-use lib.ListN.{length}
 use Rattle.spares.proofs.Sparing.{sparing}
 use Rattle.spares.proofs.spare.is_matched.Goals as goal
 

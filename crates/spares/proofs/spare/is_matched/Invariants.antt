@@ -1,8 +1,6 @@
 -- `spares::spare::is_matched` meets its contract: a word that is found is that of the match.
 use Prim.Native.Nat.{◌-◌}
-use native.Mathlib.Omega.{arith}
 use lib.ListN.{length}
-use Rattle.spares.proofs.Sparing.{sparing}
 use Rattle.spares.proofs.spare.is_matched.Given as goal
 
 abbrev pub invariant-loop-i : goal.invariant-loop-i

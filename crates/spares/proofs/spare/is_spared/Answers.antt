@@ -2,7 +2,6 @@
 use mathlib.Core.Bool.{not}
 use mathlib.Core.Path.{ap}
 use native.Mathlib.Omega.{arith}
-use borrow.Author.Rules.{rules}
 use Rattle.net.proofs.Standing.{arc-inside, place-there}
 use Rattle.spares.proofs.Sparing.{sparing, arc_at, inputs-inside, coefficient-there, place-word, components-there, spares_yes}
 use Rattle.spares.proofs.spare.is_spared.Goals as goal

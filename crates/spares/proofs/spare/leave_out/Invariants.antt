@@ -1,9 +1,7 @@
 -- `spares::spare::leave_out` meets its contract: each turn passes an arc that is spared, or copies the position of another.
-use mathlib.Core.Path.{sym, ◌∙◌}
 use Prim.Native.Nat.{◌-◌}
-use native.Mathlib.Omega.{arith}
 use lib.ListN.{length}
-use Rattle.spares.proofs.Sparing.{sparing, Left, left-room}
+use Rattle.spares.proofs.Sparing.{Left}
 use Rattle.spares.proofs.spare.leave_out.Given as goal
 
 abbrev pub invariant-loop-j : goal.invariant-loop-j

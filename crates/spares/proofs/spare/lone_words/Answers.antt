@@ -1,8 +1,6 @@
 -- `spares::spare::lone_words` meets its contract: each turn passes a word that is not that of an operator.
 use mathlib.Core.Path.{◌∙◌}
-use Prim.Native.Nat.{◌-◌}
 use native.Mathlib.Omega.{arith}
-use Rattle.spares.specs.Spare.{AreLone}
 use Rattle.spares.proofs.Sparing.{sparing, lone_turn}
 use Rattle.spares.proofs.spare.lone_words.Goals as goal
 

@@ -1,8 +1,7 @@
 -- `starts::begin::begin` meets its contract: each return is a rule of `Starting`.
 use mathlib.Core.Path.{◌≡◌, refl, sym, ◌∙◌}
 use native.Mathlib.Omega.{arith}
-use borrow.Author.Rules.{rules}
-use lib.ListN.{length, length-map}
+use lib.ListN.{length}
 use lib.Seq.{length-take-le}
 use Rattle.starts.proofs.Starting.{start_unaccepted, start_fits, start-unknown, start_unmarked, start_malformed, start-begins}
 use Rattle.starts.proofs.begin.begin.Goals as goal

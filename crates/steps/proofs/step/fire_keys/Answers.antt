@@ -1,7 +1,6 @@
 -- `steps::step::fire_keys` meets its contract: each return is a rule of `Stepped`.
 use native.Mathlib.Omega.{arith}
 use Rattle.steps.proofs.Stepped.{step-over, step-more, step-long, step-words-over, movable, writable, step-written}
-use borrow.Author.Rules.{rules}
 use Rattle.steps.proofs.step.fire_keys.Goals as goal
 
 pub returns-then-c : goal.returns-then-c

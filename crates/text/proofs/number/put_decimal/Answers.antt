@@ -1,5 +1,4 @@
 -- `text::number::put_decimal` meets its contract: twenty rounds are enough for a number of 64 bits.
-use borrow.Author.Rules.{rules}
 use native.Mathlib.Omega.{arith}
 use Rattle.text.proofs.number.put_decimal.Goals as goal
 

@@ -1,5 +1,4 @@
 -- `text::number::put_value` meets its contract: each half of the fourteen bits by its law.
-use borrow.Author.Rules.{rules}
 use native.Mathlib.Omega.{arith}
 use Prim.Native.Nat.{◌%◌, ◌<◌}
 use Rattle.text.proofs.Putting.{put_then}

@@ -1,5 +1,4 @@
 -- `text::put::put_byte` meets its contract: a byte is stored before the buffer's end, and lost from there on.
-use borrow.Author.Rules.{rules}
 use Rattle.text.proofs.Putting.{put_stored, put_lost}
 use Rattle.text.proofs.put.put_byte.Goals as goal
 

@@ -1,10 +1,8 @@
 -- `text::put::put_bytes` meets its contract: the loop keeps what is left to put.
-use Prim.Native.Nat.{◌-◌}
 use native.Mathlib.Numerals.{add-one}
-use borrow.Author.Rules.{rules}
-use lib.ListN.{length, drop, drop_of_length-le}
+use lib.ListN.{drop_of_length-le}
 use lib.Seq.{drop-cons}
-use Rattle.text.proofs.Putting.{Left, left_all, left_after, left-none}
+use Rattle.text.proofs.Putting.{left_all, left_after, left-none}
 use Rattle.text.proofs.put.put_bytes.Goals as goal
 
 pub loop-i-init : goal.loop-i-init

@@ -1,10 +1,7 @@
 -- `text::put::put_bytes` meets its contract: the loop keeps what is left to put.
 use Prim.Native.Nat.{◌-◌}
-use native.Mathlib.Numerals.{add-one}
-use borrow.Author.Rules.{rules}
-use lib.ListN.{length, drop, drop_of_length-le}
-use lib.Seq.{drop-cons}
-use Rattle.text.proofs.Putting.{Left, left_all, left_after, left-none}
+use lib.ListN.{length, drop}
+use Rattle.text.proofs.Putting.{Left}
 use Rattle.text.proofs.put.put_bytes.Given as goal
 
 abbrev pub invariant-loop-i : goal.invariant-loop-i

@@ -1,9 +1,6 @@
 -- `text_lines::line::put_later` meets its contract: the loop keeps what is left of the line.
-use borrow.Author.Rules.{rules}
-use Prim.Native.Nat.{◌-◌}
-use lib.ListN.{length}
-use Rattle.text.proofs.Putting.{Left, left_all}
-use Rattle.text_lines.proofs.Lines.{later_text, later_again, later-ends}
+use Rattle.text.proofs.Putting.{left_all}
+use Rattle.text_lines.proofs.Lines.{later_again, later-ends}
 use Rattle.text_lines.proofs.line.put_later.Goals as goal
 
 pub loop-i-init : goal.loop-i-init

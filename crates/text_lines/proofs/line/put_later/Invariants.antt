@@ -1,9 +1,8 @@
 -- `text_lines::line::put_later` meets its contract: the loop keeps what is left of the line.
-use borrow.Author.Rules.{rules}
 use Prim.Native.Nat.{◌-◌}
 use lib.ListN.{length}
-use Rattle.text.proofs.Putting.{Left, left_all}
-use Rattle.text_lines.proofs.Lines.{later_text, later_again, later-ends}
+use Rattle.text.proofs.Putting.{Left}
+use Rattle.text_lines.proofs.Lines.{later_text}
 use Rattle.text_lines.proofs.line.put_later.Given as goal
 
 abbrev pub invariant-loop-i : goal.invariant-loop-i

@@ -1,5 +1,4 @@
 -- `text_lines::line::put_numbers` meets its contract: one text after the other.
-use borrow.Author.Rules.{rules}
 use Rattle.semantics.specs.Print.{after_first}
 use Rattle.text.proofs.Putting.{put_then}
 use Rattle.text_lines.proofs.line.put_numbers.Goals as goal

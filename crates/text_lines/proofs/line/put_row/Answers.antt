@@ -1,5 +1,4 @@
 -- `text_lines::line::put_row` meets its contract: a row without values is an empty line, and one with values has its first and the later ones.
-use borrow.Author.Rules.{rules}
 use Rattle.text_lines.proofs.Lines.{row-none, row-some}
 use Rattle.text_lines.proofs.line.put_row.Goals as goal
 

@@ -2,7 +2,6 @@
 use mathlib.Core.Bool.{not}
 use mathlib.Core.Path.{ap}
 use mir.Facts.{to_z-of_z}
-use borrow.Author.Rules.{rules}
 use Rattle.tries.proofs.Slots.{tried_not, tried_on}
 use Rattle.tries.proofs.Binding.{bind-beyond, bind-outside, bind-inside}
 use Rattle.tries.proofs.partial.bind_new.Goals as goal

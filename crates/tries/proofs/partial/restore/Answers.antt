@@ -1,10 +1,8 @@
 -- `tries::partial::restore` meets its contract: the first slots so far are the words that were kept.
-use mathlib.Core.Path.{◌≡◌, refl, ◌∙◌}
-use mathlib.Core.Logic.{inl, inr, ⊎_elim}
-use Prim.Native.Nat.{◌-◌, ◌≤◌}
+use mathlib.Core.Path.{refl, ◌∙◌}
+use mathlib.Core.Logic.{inl, inr}
 use native.Mathlib.Omega.{arith}
-use borrow.Author.Rules.{rules}
-use lib.ListN.{length, take}
+use lib.ListN.{length}
 use Rattle.tries.proofs.Saving.{copy_where, copy_back}
 use Rattle.tries.proofs.partial.restore.Goals as goal
 use Rattle.tries.proofs.partial.restore.Goals.{then-slots-i, else-slots-i}

@@ -1,11 +1,7 @@
 -- `tries::partial::restore` meets its contract: the first slots so far are the words that were kept.
-use mathlib.Core.Path.{◌≡◌, refl, ◌∙◌}
-use mathlib.Core.Logic.{inl, inr, ⊎_elim}
+use mathlib.Core.Path.{◌≡◌}
 use Prim.Native.Nat.{◌-◌, ◌≤◌}
-use native.Mathlib.Omega.{arith}
-use borrow.Author.Rules.{rules}
 use lib.ListN.{length, take}
-use Rattle.tries.proofs.Saving.{copy_where, copy_back}
 use Rattle.tries.proofs.partial.restore.Given as goal
 
 abbrev pub invariant-loop-i : goal.invariant-loop-i

@@ -1,11 +1,7 @@
 -- `tries::partial::save` meets its contract: the words kept so far are the first slots, and those ahead are 0, so that a 0 need not be stored.
-use mathlib.Core.Path.{◌≡◌}
-use mathlib.Core.Logic.{inl, inr, ⊎_elim}
-use Prim.Native.Nat.{◌-◌, ◌≤◌}
+use mathlib.Core.Logic.{inl, inr}
 use native.Mathlib.Omega.{arith}
-use borrow.Author.Rules.{rules}
-use lib.ListN.{length}
-use Rattle.tries.proofs.Saving.{Keeping, keeping_start, keeping_turn, copy_kept}
+use Rattle.tries.proofs.Saving.{keeping_start, keeping_turn, copy_kept}
 use Rattle.tries.proofs.partial.save.Goals as goal
 use Rattle.tries.proofs.partial.save.Goals.{then-w-ne0, else-w-ne0}
 

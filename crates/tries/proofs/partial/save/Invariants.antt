@@ -1,11 +1,8 @@
 -- `tries::partial::save` meets its contract: the words kept so far are the first slots, and those ahead are 0, so that a 0 need not be stored.
 use mathlib.Core.Path.{◌≡◌}
-use mathlib.Core.Logic.{inl, inr, ⊎_elim}
 use Prim.Native.Nat.{◌-◌, ◌≤◌}
-use native.Mathlib.Omega.{arith}
-use borrow.Author.Rules.{rules}
 use lib.ListN.{length}
-use Rattle.tries.proofs.Saving.{Keeping, keeping_start, keeping_turn, copy_kept}
+use Rattle.tries.proofs.Saving.{Keeping}
 use Rattle.tries.proofs.partial.save.Given as goal
 
 abbrev pub invariant-loop-n : goal.invariant-loop-n

@@ -1,5 +1,4 @@
 -- `tries::range::count_values` meets its contract: `counted` of Ranging.
-use borrow.Author.Rules.{rules}
 use Rattle.tries.proofs.Ranging.{counted}
 use Rattle.tries.proofs.range.count_values.Goals as goal
 

@@ -4,7 +4,6 @@ use mathlib.Core.Option.{some}
 use Prim.Native.Nat.{◌+◌, ◌/◌, ◌%◌}
 use native.Mathlib.Omega.{arith}
 use lib.ListN.{get_or}
-use borrow.Author.Rules.{rules}
 use Rattle.tries.specs.Range.{value_at}
 use Rattle.tries.proofs.Slots.{slots_set, tried_on}
 use Rattle.tries.proofs.Ranging.{written}

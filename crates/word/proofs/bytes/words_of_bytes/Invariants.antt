@@ -1,7 +1,6 @@
 -- `word::bytes::words_of_bytes` meets its contract: the loop of `Copying`.
 use Prim.Native.Nat.{◌-◌}
-use borrow.Author.Rules.{rules}
-use Rattle.word.proofs.Copying.{Filled, filled_again, filled_end}
+use Rattle.word.proofs.Copying.{Filled}
 use Rattle.word.proofs.bytes.words_of_bytes.Given as goal
 
 abbrev pub invariant-loop-i : goal.invariant-loop-i

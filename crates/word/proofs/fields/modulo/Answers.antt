@@ -3,12 +3,8 @@ use mathlib.Core.Path.{refl}
 use native.Mathlib.Nat.{mod-lt}
 use native.Mathlib.Omega.{arith}
 use lib.Signed.{mag}
-use borrow.Author.Rules.{rules}
 use Rattle.word.proofs.Read.{negative, natural, read-not, read_natural}
 use Rattle.word.proofs.fields.modulo.Goals as goal
-
-pub overflow_sub-result : goal.overflow_sub-result
-overflow_sub-result c = search rules
 
 pub overflow_cast-result : goal.overflow_cast-result
 overflow_cast-result c = rw (read-not c.ranges.x c.if-x-lt0.true) (tt, omega arith)

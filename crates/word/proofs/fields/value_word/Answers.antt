@@ -1,11 +1,7 @@
 -- `word::fields::value_word` meets its contract.
 use mathlib.Core.Path.{refl}
 use mir.Facts.{to_z-of_z}
-use borrow.Author.Rules.{rules}
 use Rattle.word.proofs.fields.value_word.Goals as goal
-
-pub modulo-requires : goal.modulo-requires
-modulo-requires c = search rules
 
 pub returns : goal.returns
 returns c = rw (simp (to_z-of_z c.ranges.z) at c.modulo.ensures.0) refl
