@@ -32,7 +32,7 @@ fn is_unknown(w: u32, transitions: usize) -> bool
     transitions <= (w / 16384 % 256) as usize
 }
 
-// The first well_formed pick of a transition not below a number.
+// The first well-formed pick of a transition not below a number.
 pub fn first_unknown(picks: &[u32], transitions: usize) -> FirstPick
     ensures { first_pick result ≡ first_unknown transitions picks.now }
 {

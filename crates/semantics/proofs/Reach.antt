@@ -112,7 +112,7 @@ module _ (table : List ℕ) (net : Net) (l : Limits) (sound : SoundNet net) wher
       by_transition none p h = stopped-moved h
       by_transition (some t) p h = by_offer t p (offer table net l.budget l.menu_room t m) refl h
 
-  -- what a step's pick is: a well_formed word of a transition that there is, which leads where the step leads
+  -- what a step's pick is: a well-formed word of a transition that there is, which leads where the step leads
   pub record Picks (m m' : Counts) (w : ℕ) : Type 0 where
     pub well_formed : is_pick w ≡ true
     pub there : pick_transition w < length net.transitions

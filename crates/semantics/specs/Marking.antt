@@ -58,7 +58,7 @@ unfoldable pub first_that : (ℕ → Bool) → List ℕ → ℕ → Option ℕ
 first_that p [] at = none
 first_that p (w ∷ ws) at = let later = first_that p ws (at + 1) in cond (p w) (some at) later
 
--- 6: "in a run, that of the first well_formed such pick"
+-- 6: "in a run, that of the first well-formed such pick"
 abbrev pub first_unknown : ℕ → List ℕ → Option ℕ
 first_unknown transitions picks = first_that (λ w. is_pick w && leb transitions (pick_transition w)) picks 0
 
