@@ -1,5 +1,6 @@
 -- `accept::accepted::accept_into` meets its contract: the net's word, its places, and its transitions with their plans, by the rules of
 -- net/proofs/Nets and `Checking`. The tables have 64 elements, and a net has no more places or transitions.
+use mathlib.Core.List.{[]}
 use mathlib.Core.Path.{◌≡◌, sym, ap, ◌∙◌}
 use Prim.Native.Nat.{◌/◌, ◌%◌}
 use native.Mathlib.Omega.{arith}

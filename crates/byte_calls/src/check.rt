@@ -1,0 +1,1 @@
+pub use byte_checks::check::check_bytes;

@@ -1,0 +1,1 @@
+pub use byte_tests::test::test_bytes;
