@@ -6,10 +6,9 @@ use native.Mathlib.Omega.{arith}
 use lib.ListN.{length, get_or}
 use Rattle.semantics.specs.Word.{payload}
 use Rattle.semantics.specs.Reading.{read, several}
-use Rattle.semantics.specs.Net.{Arc, ranges_at}
-use Rattle.semantics.specs.ReadNet.{read_expression, read_arc}
+use Rattle.semantics.specs.Net.{ranges_at}
+use Rattle.semantics.specs.ReadNet.{read_expression}
 use Rattle.semantics.proofs.Spans.{several-length}
-use Rattle.expression.specs.Standing.{HasSeveral}
 use Rattle.expression.proofs.Laws.{expression_short}
 use Rattle.net.specs.Places.{width_at, places_at, PlacesFit}
 use Rattle.net.proofs.Placed.{width_at_lem, fits_at_lem}
@@ -49,17 +48,6 @@ module _ {ws ps : List ℕ} {v : ℕ} {ms begins : List ℕ} {at : ℕ} (w : IsT
       omega arith
 
   module _ {place : ℕ} (d : place ≡ payload (get_or ws at 0)) where
-    -- its components, read from behind its coefficient
-    components-read : {width : ℕ} {a : Arc} {next : ℕ} → width ≡ width_at ws (get_or ps place 0) → (h : read_arc ws (places_at ws ps) v at ≡ read a next) → several width (read_expression ws v) (at + 2) ≡ read a.components (arc-parts ws (places_at ws ps) v at h).next
-    components-read {width} i h =
-        let s = arc-parts ws (places_at ws ps) v at h in
-        let o : s.mid ≡ at + 2 = behind-constant ws (places_at ws ps) v at h w.short in
-        let z : length (ranges_at (places_at ws ps) (place_of ws at)) ≡ width = ap (λ (n : ℕ). length (ranges_at (places_at ws ps) n)) (sym d) ∙ width_at_lem ws ps place (place-there w.stands d) ∙ sym i in
-        rw (z, o) at s.components
-
-    pub components-stand : {width : ℕ} → width ≡ width_at ws (get_or ps place 0) → HasSeveral ws v width (at + 2)
-    components-stand i = record { trees = w.stands.arc.components; next = _; reads = components-read i w.stands.reads }
-
     pub entries-up : get_or begins place 0 ≤ get_or begins (place + 1) 0
     entries-up = rw d w.up
 
@@ -71,6 +59,8 @@ module _ {ws ps : List ℕ} {v : ℕ} {ms begins : List ℕ} {at : ℕ} (w : IsT
       aimed = λ a next h x y.
           let s = arc-parts ws (places_at ws ps) v at h in
           let p : place ≡ a.place = d ∙ sym s.place in
-          let c = components-read i h in
+          let o : s.mid ≡ at + 2 = behind-constant ws (places_at ws ps) v at h w.short in
+          let z : length (ranges_at (places_at ws ps) (place_of ws at)) ≡ width = ap (λ (n : ℕ). length (ranges_at (places_at ws ps) n)) (sym (p ∙ s.place)) ∙ width_at_lem ws ps place (place-there w.stands d) ∙ sym i in
+          let c : several width (read_expression ws v) (at + 2) ≡ read a.components s.next = rw (z, o) at s.components in
           record { wide = sym (several-length (read_expression ws v) width (at + 2) a.components s.next c); begin = j.begin a.components s.next c; from = rw p; many = rw p };
     })

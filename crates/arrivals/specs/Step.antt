@@ -21,10 +21,6 @@ use Rattle.net.specs.Standing.{HasConjunct, HasArc}
 use Rattle.solving.specs.Solve.{solved_at}
 use Rattle.tries.specs.Range.{value_at, CountsValues, up_from}
 
--- where the expression that is read at a position ends
-pub record EndsAt (ws : List ℕ) (v at r : ℕ) : Type 0 where
-  pub ends : (e : Expression) (next : ℕ) → read_expression ws v at ≡ read e next → r ≡ next
-
 -- words are the first ones of expressions
 abbrev pub Begin : List ℕ → List Expression → Type 0
 Begin [] [] = Unit {0}

@@ -1,10 +1,9 @@
 // An arrival at an element of a plan: how many tries it makes, and each of them.
 ghost use Rattle.std.specs.Prelude.{◌≡◌, ◌≤◌, ◌<◌, ◌+◌, length, get_or};
 ghost use Rattle.std.proofs.Math.Option.{none};
-ghost use Rattle.expression.specs.Standing.{HasExpression, HasSeveral};
 ghost use Rattle.net.specs.Places.{PlacesFit};
 ghost use Rattle.tries.specs.Partial.{partial_of, IsTried, IsSaved};
-ghost use Rattle.arrivals.specs.Step.{EndsAt, IsParts, Blank, Noted, IsTarget, Aims, IsMatch, IsArrival, Safe, Ready, tries_by};
+ghost use Rattle.arrivals.specs.Step.{IsParts, Blank, Noted, IsTarget, Aims, IsMatch, IsArrival, Safe, Ready, tries_by};
 
 use counts::find::entries;
 use elements::element::{Element, Sort};
@@ -13,7 +12,7 @@ use matches::colour::match_colour;
 use matches::known::{differs, known_parts};
 use solving::solve::solve_at;
 use tries::range::{count_values, take_value};
-use word::fields::{kind, payload};
+use word::fields::payload;
 
 // A search step: the element that was arrived at, its number of tries, and what they need: for a match where the entries of its place begin, the
 // components of a colour there; for a solve where its conjunct stands. The first words of the arc's components and the values that are known of them
@@ -38,42 +37,24 @@ fn no_tries(e: Element) -> Step
     }
 }
 
-// Where the expression that stands at a position ends.
-fn end_of_any(net: &[u32], variables: usize, at: usize) -> usize
-    requires { HasExpression net.now variables at }
-    ensures { EndsAt net.now variables at result }
-{
-    match skip_expression(net, variables, at) {
-        Skipped::Next(p) => p,
-        Skipped::Refused(_, _) => at,
-    }
-}
-
-// The same; a constant or a lone variable, the common case, is one word.
-fn end_of(net: &[u32], variables: usize, at: usize) -> usize
-    requires { HasExpression net.now variables at }
-    ensures { EndsAt net.now variables at result }
-{
-    match kind(net[at]) {
-        7 => at + 1,
-        8 => at + 1,
-        0..=6 | 9..=15 => end_of_any(net, variables, at),
-        _ => end_of_any(net, variables, at),
-    }
-}
-
-// The first words of so many expressions, which stand one after the other.
+// The first words of so many expressions, one after the other.
 fn parts_at(net: &[u32], variables: usize, at: usize, n: usize, parts: &mut [u32; 4])
     requires n_bound { n ≤ 4 }
     requires parts_len { length parts.old ≡ 4 }
-    requires has_several { HasSeveral net.now variables n at }
     ensures { IsParts net.now variables at n parts.new }
 {
     let mut i = 0;
     let mut next = at;
     while i < n {
-        parts[i] = net[next];
-        next = end_of(net, variables, next);
+        match skip_expression(net, variables, next) {
+            Skipped::Next(p) => {
+                parts[i] = net[next];
+                next = p;
+            }
+            Skipped::Refused(_, _) => {
+                return;
+            }
+        }
         i += 1;
     }
 }

@@ -24,9 +24,8 @@ outcome_of w s m = cond s.spent exhausted (reached s.tries (listing_of w s.rows 
 
 -- ── What the code's answers say ──
 
--- the rows, of at most eight words, are at the front of the menu, with room for `most`
+-- the rows are at the front of the menu, with room for `most`
 pub record Held (w most n : ℕ) (m : List ℕ) : Type 0 where
-  pub few : w ≤ 8
   pub kept : Kept w n m
   pub within : n ≤ most
   pub room : most * w ≤ length m

@@ -104,12 +104,12 @@ empty_slots (suc v) zero h = absurd (omega arith)
 empty_slots (suc v) (suc n) h = ap (λ (p : Partial). none ∷ p) (empty_slots v n (omega arith))
 
 -- no rows yet
-pub held_none : (w room : ℕ) (m : List ℕ) → w ≤ 8 → length m ≡ room → Held w (most_rows room w) 0 m
+pub held_none : (w room : ℕ) (m : List ℕ) → length m ≡ room → Held w (most_rows room w) 0 m
 unfolding rows_of
-held_none w room m f l =
+held_none w room m l =
     let z = zero-mul w in
     let r = (most_roomy room w).words in
-    record { few = f; kept = record { room = omega arith; rising = tt; values = rw z tt }; within = omega arith; room = omega arith }
+    record { kept = record { room = omega arith; rising = tt; values = rw z tt }; within = omega arith; room = omega arith }
 
 module _ {ws ps : List ℕ} {position v : ℕ} {inputs conjuncts elements ms begins : List ℕ} {s : Situation} (W : World ws ps position v inputs conjuncts elements ms begins s) where
   start-empty : partial_of v (take v (replicate 8 0)) ≡ empty s.transition

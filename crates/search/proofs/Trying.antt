@@ -160,7 +160,7 @@ module _ {w most budget : ℕ} {f : Partial → ℕ} {g : Partial → List (List
           let p = x.paid in
           let room = T.held.room in
           record {
-            held = record { few = T.held.few; kept = E.kept; within = E.within; room = omega arith };
+            held = record { kept = E.kept; within = E.within; room = omega arith };
             unspent = record { paid = omega arith; on = d };
             grown = further;
             beyond = untouched;

@@ -1,7 +1,7 @@
 // Partial bindings as words: a slot for each variable, which holds a VALUE word where the variable is bound and 0 where it is not. The slots are lent,
 // since a copy for each try, with one word set, is loaded right after that word is stored, and the processor waits for it. So a try writes into them,
 // and what it wrote is taken back before the next.
-ghost use Rattle.std.specs.Prelude.{◌≡◌, ◌≤◌, ◌+◌, length, take, replicate};
+ghost use Rattle.std.specs.Prelude.{◌≡◌, ◌≤◌, ◌+◌, length, take};
 ghost use Rattle.std.proofs.Math.ListN.{get_elem?};
 ghost use Rattle.semantics.specs.Tries.{bind_new};
 ghost use Rattle.net.specs.Places.{ranges_from};
@@ -11,19 +11,14 @@ use colours::range::in_range;
 use word::fields::value_word;
 use word::size::at_most;
 
-// Keeps the words of the slots, to be put back, in words that are 0. A word is stored only where it is not 0, since a plain copy becomes a call that takes
-// longer than so few words. That they are at most eight is said to the compiler: it would make a wide loop for many, and prepare for that at each arrival.
+// Keeps the words of the slots, to be put back.
 pub fn save(slots: &[u32], saved: &mut [u32; 8])
-    requires { (length slots.now ≤ 8) × (saved.old ≡ replicate 8 0) }
+    requires { (length slots.now ≤ 8) × (length saved.old ≡ 8) }
     ensures { IsSaved slots.now saved.new }
 {
-    let many = at_most(8, slots.len());
     let mut n = 0;
-    while n < many {
-        let w = slots[n];
-        if w != 0 {
-            saved[n] = w;
-        }
+    while n < slots.len() {
+        saved[n] = slots[n];
         n += 1;
     }
 }

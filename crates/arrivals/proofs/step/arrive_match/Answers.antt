@@ -2,7 +2,7 @@
 use native.Mathlib.Omega.{arith}
 use Rattle.net.proofs.Placed.{place_inside, fits_at_lem}
 use Rattle.net.proofs.Standing.{arc-inside, place-there}
-use Rattle.arrivals.proofs.Aiming.{components_near, entries-up, components-stand, match-aimed}
+use Rattle.arrivals.proofs.Aiming.{components_near, entries-up, match-aimed}
 use Rattle.arrivals.proofs.step.arrive_match.Goals as goal
 
 pub offset_bounds-net-at : goal.offset_bounds-net-at
@@ -42,7 +42,7 @@ pub overflow_add-at : goal.overflow_add-at
 overflow_add-at c = let w = c.requires.target in let k = components_near w in omega arith
 
 pub parts_at-requires : goal.parts_at-requires
-parts_at-requires c = let w = c.requires.target in let n = (fits_at_lem c.requires.places_fit _ (place-there w.stands c.payload-place.ensures.0)).narrow in let e = c.payload-width.ensures.0 in record { n_bound = omega arith; parts_len = c.requires.blank.full; has_several = components-stand w c.payload-place.ensures.0 e }
+parts_at-requires c = let w = c.requires.target in let n = (fits_at_lem c.requires.places_fit _ (place-there w.stands c.payload-place.ensures.0)).narrow in let e = c.payload-width.ensures.0 in record { n_bound = omega arith; parts_len = c.requires.blank.full }
 
 pub known_parts-requires : goal.known_parts-requires
 known_parts-requires c = let w = c.requires.target in let n = (fits_at_lem c.requires.places_fit _ (place-there w.stands c.payload-place.ensures.0)).narrow in let e = c.payload-width.ensures.0 in record { variables_in_bounds = (c.requires.variables_in_bounds, omega arith); known_value = c.requires.blank.blank }

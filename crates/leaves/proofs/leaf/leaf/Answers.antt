@@ -10,7 +10,7 @@ pub enabled_behind-requires : goal.enabled_behind-requires
 enabled_behind-requires c = record { places_fit = c.requires.places_fit; begins_len = c.requires.begins_len; inputs_len_bound = c.requires.inputs_len_bound; keys_len = c.requires.keys_len; every = c.requires.every; every_2 = c.requires.every_2; known = c.requires.known }
 
 pub insert_row-requires : goal.insert_row-requires
-insert_row-requires c = record { kept = c.requires.held.kept; n_le_most = (c.requires.held.within, c.requires.held.room); every = c.requires.every_3; row_len_bound = c.requires.held.few }
+insert_row-requires c = record { kept = c.requires.held.kept; n_le_most = (c.requires.held.within, c.requires.held.room); every = c.requires.every_3 }
 
 pub returns-then-enabled_behind : goal.returns-then-enabled_behind
 returns-then-enabled_behind c = record { leaf = leaf_added _ _ _ _ _ _ _ _ _ _ _ c.requires.held c.enabled_behind.ensures.enabled_at c.if-enabled_behind.true c.if-full.false c.insert_row.ensures; keeps = c.enabled_behind.ensures.keeps }

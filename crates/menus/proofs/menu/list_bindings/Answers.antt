@@ -24,7 +24,7 @@ slice_bounds-search_plan-end c = sym (slots-full _ (few-variables c.requires.wor
 pub search_plan-end-requires : goal.search_plan-end-requires
 search_plan-end-requires c =
     let W = c.requires.world in
-    record { world = W; slots_len = slots-full _ (few-variables W); sound = start_sound W; unspared = c.requires.unspared; held = subst (λ (k : ℕ). Held c.args.variables k 0 c.args.menu.now) (sym c.most_rows-most.ensures) (held_none c.args.variables (length c.args.menu.now) c.args.menu.now (few-variables W) refl) }
+    record { world = W; slots_len = slots-full _ (few-variables W); sound = start_sound W; unspared = c.requires.unspared; held = subst (λ (k : ℕ). Held c.args.variables k 0 c.args.menu.now) (sym c.most_rows-most.ensures) (held_none c.args.variables (length c.args.menu.now) c.args.menu.now refl) }
 
 pub returns-then-end : goal.returns-then-end
 unfolding rows_of
