@@ -32,7 +32,7 @@ pub fn transition_of(w: u32) -> u32 {
     w / 0x4000 % 256
 }
 
-// The first well_formed pick of a transition that the net does not have, or the number of picks.
+// The first well-formed pick of a transition that the net does not have, or the number of picks.
 fn first_unknown(net: &[u32], picks: &[u32]) -> usize {
     let mut i = 0;
     while i < picks.len() {

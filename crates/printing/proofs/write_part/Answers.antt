@@ -1,7 +1,6 @@
 -- `printing::write_part` meets its contract: what is written of the buffer is no more than it has.
 use mathlib.Core.Path.{sym}
 use native.Mathlib.Omega.{arith}
-use borrow.Author.Rules.{rules}
 use lib.Seq.{length-take-le}
 use Rattle.printing.proofs.write_part.Goals as goal
 

@@ -1,5 +1,5 @@
 -- `printing::write_printed` meets its contract: the measure is the number of parts left, of which there are at most 64.
-use Prim.Native.Nat.{suc, ◌-◌, ◌<◌}
+use Prim.Native.Nat.{suc, ◌<◌}
 use native.Mathlib.Omega.{arith}
 use borrow.Author.Rules.{rules}
 use borrow.Author.Tests.{ltb-true}

@@ -1,11 +1,6 @@
 -- `printing::write_printed` meets its contract: the measure is the number of parts left, of which there are at most 64.
-use Prim.Native.Nat.{suc, ◌-◌, ◌<◌}
-use native.Mathlib.Omega.{arith}
-use borrow.Author.Rules.{rules}
-use borrow.Author.Tests.{ltb-true}
-use mathlib.Core.Path.{sym, ◌∙◌}
+use Prim.Native.Nat.{◌-◌}
 use Rattle.printed.specs.Texts.{parts}
-use Rattle.printed.proofs.Whole.{parts-few}
 use Rattle.printing.proofs.write_printed.Given as goal
 
 abbrev pub invariant-loop-i : goal.invariant-loop-i

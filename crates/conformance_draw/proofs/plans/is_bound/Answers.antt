@@ -1,9 +1,5 @@
 -- `conformance_draw::plans::is_bound` is safe and ends. The measure is the number of turns that are left.
-use Rattle.std.proofs.Common.{rules}
 use Rattle.conformance_draw.proofs.plans.is_bound.Goals as goal
-
-pub skip-requires : goal.skip-requires
-skip-requires c = search rules
 
 pub loop-left-init : goal.loop-left-init
 loop-left-init c = tt

@@ -1,5 +1,4 @@
 -- `conformance_draw::plans::is_bound` is safe and ends. The measure is the number of turns that are left.
-use Rattle.std.proofs.Common.{rules}
 use Rattle.conformance_draw.proofs.plans.is_bound.Given as goal
 
 abbrev pub invariant-loop-left : goal.invariant-loop-left

@@ -1,5 +1,5 @@
 -- `conformance_drawn::plain::covered` is safe and ends. The measure is the number of colours that are left.
-use Rattle.std.proofs.Common.{◌-◌, rules}
+use Rattle.std.proofs.Common.{◌-◌}
 use Rattle.conformance_drawn.proofs.plain.covered.Given as goal
 
 abbrev pub invariant-loop-i : goal.invariant-loop-i

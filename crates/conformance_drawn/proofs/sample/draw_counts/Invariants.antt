@@ -1,5 +1,5 @@
 -- `conformance_drawn::sample::draw_counts` is safe and ends. The measure is the number of colours that are left; the buffer keeps its length.
-use Rattle.std.proofs.Common.{◌≡◌, ◌-◌, length, refl, rules}
+use Rattle.std.proofs.Common.{◌≡◌, ◌-◌, length}
 use Rattle.conformance_drawn.proofs.sample.draw_counts.Given as goal
 
 abbrev pub invariant-loop-i : goal.invariant-loop-i

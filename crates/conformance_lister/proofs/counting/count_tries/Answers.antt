@@ -1,9 +1,6 @@
 -- `conformance_lister::counting::count_tries` is safe and ends. The measure is the number of turns that are left; the buffer keeps its length.
-use Rattle.std.proofs.Common.{◌≡◌, length, refl, rules}
+use Rattle.std.proofs.Common.{refl}
 use Rattle.conformance_lister.proofs.counting.count_tries.Goals as goal
-
-pub no_work-requires : goal.no_work-requires
-no_work-requires c = search rules
 
 pub loop-left-init : goal.loop-left-init
 loop-left-init c = refl

@@ -1,5 +1,4 @@
 -- `conformance_lister::flow::colour_under` is safe and ends. The measure is the number of turns that are left.
-use Rattle.std.proofs.Common.{rules}
 use Rattle.conformance_lister.proofs.flow.colour_under.Given as goal
 
 abbrev pub invariant-loop-left : goal.invariant-loop-left

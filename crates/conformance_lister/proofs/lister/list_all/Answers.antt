@@ -1,9 +1,6 @@
 -- `conformance_lister::lister::list_all` is safe and ends. The measure is the number of turns that are left; the buffer keeps its length.
-use Rattle.std.proofs.Common.{◌≡◌, ◌-◌, length, refl, rules}
+use Rattle.std.proofs.Common.{refl}
 use Rattle.conformance_lister.proofs.lister.list_all.Goals as goal
-
-pub tuples-all-requires : goal.tuples-all-requires
-tuples-all-requires c = search rules
 
 pub loop-index-init : goal.loop-index-init
 loop-index-init c = refl

@@ -1,5 +1,5 @@
 -- `conformance_lister::lister::list_all` is safe and ends. The measure is the number of turns that are left; the buffer keeps its length.
-use Rattle.std.proofs.Common.{◌≡◌, ◌-◌, length, refl, rules}
+use Rattle.std.proofs.Common.{◌≡◌, ◌-◌, length}
 use Rattle.conformance_lister.proofs.lister.list_all.Given as goal
 
 abbrev pub invariant-loop-index : goal.invariant-loop-index

@@ -1,5 +1,5 @@
 -- `conformance_menu::compare::compare_all` is safe and ends. The measure is the number of calls that are left.
-use Rattle.std.proofs.Common.{◌-◌, rules}
+use Rattle.std.proofs.Common.{◌-◌}
 use Rattle.conformance_menu.proofs.compare.compare_all.Given as goal
 
 abbrev pub invariant-loop-k : goal.invariant-loop-k

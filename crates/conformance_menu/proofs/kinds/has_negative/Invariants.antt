@@ -1,5 +1,5 @@
 -- `conformance_menu::kinds::has_negative` is safe and ends. The measure is the number of turns that are left.
-use Rattle.std.proofs.Common.{◌-◌, rules}
+use Rattle.std.proofs.Common.{◌-◌}
 use Rattle.conformance_menu.proofs.kinds.has_negative.Given as goal
 
 abbrev pub invariant-loop-i : goal.invariant-loop-i

@@ -1,9 +1,5 @@
 -- `conformance_menu::kinds::plan` is safe and ends. The measure is the number of turns that are left.
-use Rattle.std.proofs.Common.{rules}
 use Rattle.conformance_menu.proofs.kinds.plan.Goals as goal
-
-pub unbound-b-requires : goal.unbound-b-requires
-unbound-b-requires c = search rules
 
 pub loop-left-init : goal.loop-left-init
 loop-left-init c = tt

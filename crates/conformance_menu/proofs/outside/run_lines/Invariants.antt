@@ -1,5 +1,4 @@
 -- `conformance_menu::outside::run_lines` is safe and ends. The measure is the number of turns that are left.
-use Rattle.std.proofs.Common.{rules}
 use Rattle.conformance_menu.proofs.outside.run_lines.Given as goal
 
 abbrev pub invariant-loop-left : goal.invariant-loop-left

@@ -1,5 +1,5 @@
 -- `conformance_net::length::largest` is safe and ends. The measure is the number of transitions that are left; the buffer keeps its length.
-use Rattle.std.proofs.Common.{◌≡◌, length, refl, rules}
+use Rattle.std.proofs.Common.{◌≡◌, length}
 use Rattle.conformance_net.proofs.length.largest.Given as goal
 
 abbrev pub invariant-loop-left : goal.invariant-loop-left

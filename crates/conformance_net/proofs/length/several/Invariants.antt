@@ -1,5 +1,5 @@
 -- `conformance_net::length::several` is safe and ends. The measure is the number of structures that are left; the buffer keeps its length.
-use Rattle.std.proofs.Common.{◌≡◌, length, refl, rules}
+use Rattle.std.proofs.Common.{◌≡◌, length}
 use Rattle.conformance_net.proofs.length.several.Given as goal
 
 abbrev pub invariant-loop-left : goal.invariant-loop-left

@@ -1,5 +1,4 @@
 -- `conformance_net::nets::attempt_kinds` is safe and ends. The measure is the number of kinds that are left.
-use Rattle.std.proofs.Common.{rules}
 use Rattle.conformance_net.proofs.nets.attempt_kinds.Given as goal
 
 abbrev pub invariant-loop-left : goal.invariant-loop-left

@@ -1,5 +1,5 @@
 -- `conformance_net::report::say_words` is safe and ends. The measure is the number of words that are left.
-use Rattle.std.proofs.Common.{◌-◌, length, rules}
+use Rattle.std.proofs.Common.{◌-◌, length}
 use Rattle.conformance_net.proofs.report.say_words.Given as goal
 
 abbrev pub invariant-loop-i : goal.invariant-loop-i

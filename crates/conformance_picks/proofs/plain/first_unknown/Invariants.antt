@@ -1,5 +1,5 @@
 -- `conformance_picks::plain::first_unknown` is safe and ends. The measure is the number of turns that are left.
-use Rattle.std.proofs.Common.{◌-◌, length, rules}
+use Rattle.std.proofs.Common.{◌-◌, length}
 use Rattle.conformance_picks.proofs.plain.first_unknown.Given as goal
 
 abbrev pub invariant-loop-i : goal.invariant-loop-i

@@ -1,5 +1,4 @@
 -- `conformance_picks::plain::is_over` is safe and ends. The measure is the number of turns that are left.
-use Rattle.std.proofs.Common.{◌-◌, length, rules}
 use Rattle.conformance_picks.proofs.plain.is_over.Goals as goal
 
 pub loop-i-init : goal.loop-i-init

@@ -1,5 +1,5 @@
 -- `conformance_plain::build::repeat` is safe and ends. The measure is the number of words that are left; the buffer keeps its length.
-use Rattle.std.proofs.Common.{◌≡◌, length, refl, rules}
+use Rattle.std.proofs.Common.{◌≡◌, length}
 use Rattle.conformance_plain.proofs.build.repeat.Given as goal
 
 abbrev pub invariant-loop-left : goal.invariant-loop-left

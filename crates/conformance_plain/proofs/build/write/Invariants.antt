@@ -1,5 +1,5 @@
 -- `conformance_plain::build::write` is safe and ends. The measure is the number of bytes that are left; the buffer keeps its length.
-use Rattle.std.proofs.Common.{◌≡◌, ◌-◌, length, refl, rules}
+use Rattle.std.proofs.Common.{◌≡◌, ◌-◌, length}
 use Rattle.conformance_plain.proofs.build.write.Given as goal
 
 abbrev pub invariant-loop-i : goal.invariant-loop-i

@@ -1,9 +1,5 @@
 -- `conformance_plain::counts::after_values` is safe and ends. The measure is the number of turns that are left.
-use Rattle.std.proofs.Common.{rules}
 use Rattle.conformance_plain.proofs.counts.after_values.Goals as goal
-
-pub place_at-requires : goal.place_at-requires
-place_at-requires c = search rules
 
 pub loop-left-init : goal.loop-left-init
 loop-left-init c = tt

@@ -1,9 +1,5 @@
 -- `conformance_plain::counts::colour_at` is safe and ends. The measure is the number of turns that are left.
-use Rattle.std.proofs.Common.{rules}
 use Rattle.conformance_plain.proofs.counts.colour_at.Goals as goal
-
-pub no_components-c-requires : goal.no_components-c-requires
-no_components-c-requires c = search rules
 
 pub loop-left-init : goal.loop-left-init
 loop-left-init c = tt

@@ -1,5 +1,5 @@
 -- `conformance_plain::counts::first_cell` is safe and ends. The measure is the number of turns that are left.
-use Rattle.std.proofs.Common.{◌-◌, rules}
+use Rattle.std.proofs.Common.{◌-◌}
 use Rattle.conformance_plain.proofs.counts.first_cell.Given as goal
 
 abbrev pub invariant-loop-p : goal.invariant-loop-p

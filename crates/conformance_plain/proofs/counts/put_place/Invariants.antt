@@ -1,5 +1,5 @@
 -- `conformance_plain::counts::put_place` is safe and ends. The measure is the number of turns that are left; the buffer keeps its length.
-use Rattle.std.proofs.Common.{◌≡◌, ◌-◌, length, refl, rules}
+use Rattle.std.proofs.Common.{◌≡◌, ◌-◌, length}
 use Rattle.conformance_plain.proofs.counts.put_place.Given as goal
 
 abbrev pub invariant-loop-index : goal.invariant-loop-index

@@ -1,5 +1,5 @@
 -- `conformance_plain::slots::slots_at` is safe and ends. The measure is the number of slots that are left.
-use Rattle.std.proofs.Common.{◌-◌, rules}
+use Rattle.std.proofs.Common.{◌-◌}
 use Rattle.conformance_plain.proofs.slots.slots_at.Given as goal
 
 abbrev pub invariant-loop-v : goal.invariant-loop-v

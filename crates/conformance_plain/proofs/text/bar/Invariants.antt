@@ -1,5 +1,4 @@
 -- `conformance_plain::text::bar` is safe and ends. The measure is the number of turns that are left.
-use Rattle.std.proofs.Common.{rules}
 use Rattle.conformance_plain.proofs.text.bar.Given as goal
 
 abbrev pub invariant-loop-left : goal.invariant-loop-left

@@ -1,5 +1,5 @@
 -- `conformance_plain::text::find` is safe and ends. The measure is the number of turns that are left.
-use Rattle.std.proofs.Common.{◌-◌, length, rules}
+use Rattle.std.proofs.Common.{◌-◌, length}
 use Rattle.conformance_plain.proofs.text.find.Given as goal
 
 abbrev pub invariant-loop-at : goal.invariant-loop-at

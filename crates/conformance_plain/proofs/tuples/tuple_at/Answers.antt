@@ -1,9 +1,5 @@
 -- `conformance_plain::tuples::tuple_at` is safe and ends. The measure is the number of turns that are left.
-use Rattle.std.proofs.Common.{rules}
 use Rattle.conformance_plain.proofs.tuples.tuple_at.Goals as goal
-
-pub unbound-b-requires : goal.unbound-b-requires
-unbound-b-requires c = search rules
 
 pub loop-v-init : goal.loop-v-init
 loop-v-init c = tt

@@ -1,9 +1,5 @@
 -- `conformance_plain::value::evaluate` is safe and ends. The measure is the number of turns that are left.
-use Rattle.std.proofs.Common.{rules}
 use Rattle.conformance_plain.proofs.value.evaluate.Goals as goal
-
-pub skip-at-requires : goal.skip-at-requires
-skip-at-requires c = search rules
 
 pub loop-left-init : goal.loop-left-init
 loop-left-init c = tt

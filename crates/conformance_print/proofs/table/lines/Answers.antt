@@ -1,5 +1,4 @@
 -- `conformance_print::table::lines` is safe and ends. The measure is a number of lines that no text has.
-use Rattle.std.proofs.Common.{rules}
 use Rattle.conformance_print.proofs.table.lines.Goals as goal
 
 pub loop-left-init : goal.loop-left-init

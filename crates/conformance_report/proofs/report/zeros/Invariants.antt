@@ -1,5 +1,5 @@
 -- `conformance_report::report::zeros` is safe and ends. The measure is the number of turns that are left.
-use Rattle.std.proofs.Common.{◌-◌, rules}
+use Rattle.std.proofs.Common.{◌-◌}
 use Rattle.conformance_report.proofs.report.zeros.Given as goal
 
 abbrev pub invariant-loop-i : goal.invariant-loop-i

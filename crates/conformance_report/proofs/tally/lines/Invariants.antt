@@ -1,5 +1,4 @@
 -- `conformance_report::tally::lines` is safe and ends. The measure is a number of lines that no text has.
-use Rattle.std.proofs.Common.{rules}
 use Rattle.conformance_report.proofs.tally.lines.Given as goal
 
 abbrev pub invariant-loop-left : goal.invariant-loop-left

@@ -1,5 +1,5 @@
 -- `conformance_run::drawn::draw_picks` is safe and ends. The measure is the number of turns that are left; the buffer keeps its length.
-use Rattle.std.proofs.Common.{◌≡◌, ◌-◌, length, refl, rules}
+use Rattle.std.proofs.Common.{◌≡◌, ◌-◌, length}
 use Rattle.conformance_run.proofs.drawn.draw_picks.Given as goal
 
 abbrev pub invariant-loop-i : goal.invariant-loop-i

@@ -1,5 +1,5 @@
 -- `conformance_run::drawn::transitions` is safe and ends. The measure is the number of turns that are left; the buffer keeps its length.
-use Rattle.std.proofs.Common.{◌≡◌, ◌-◌, length, refl, rules}
+use Rattle.std.proofs.Common.{◌≡◌, ◌-◌, length}
 use Rattle.conformance_run.proofs.drawn.transitions.Given as goal
 
 abbrev pub invariant-loop-t : goal.invariant-loop-t

@@ -1,8 +1,6 @@
 -- `listing::describe::put_components` meets its contract: the loop keeps the buffer's length and passes no more components than there are.
-use mathlib.Core.Path.{◌≡◌, refl, ◌∙◌}
+use mathlib.Core.Path.{◌≡◌}
 use Prim.Native.Nat.{◌-◌, ◌≤◌}
-use native.Mathlib.Omega.{arith}
-use borrow.Author.Rules.{rules}
 use lib.ListN.{length}
 use Rattle.listing.proofs.describe.put_components.Given as goal
 

@@ -1,7 +1,6 @@
 -- `listing::lines::put_from` is safe and ends: the loop keeps the buffer's length, and the measure is the number of bytes that are left.
-use mathlib.Core.Path.{◌≡◌, refl, ◌∙◌}
+use mathlib.Core.Path.{◌≡◌}
 use Prim.Native.Nat.{◌-◌}
-use borrow.Author.Rules.{rules}
 use lib.ListN.{length}
 use Rattle.listing.proofs.lines.put_from.Given as goal
 

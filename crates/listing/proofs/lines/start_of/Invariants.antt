@@ -1,6 +1,5 @@
 -- `listing::lines::start_of` is safe and ends. The measure is the number of bytes that are left.
 use Prim.Native.Nat.{◌-◌}
-use borrow.Author.Rules.{rules}
 use lib.ListN.{length}
 use Rattle.listing.proofs.lines.start_of.Given as goal
 

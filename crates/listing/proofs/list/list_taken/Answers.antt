@@ -1,9 +1,6 @@
 -- `listing::list::list_taken` meets its contract: the loop passes no more words than there are.
-use mathlib.Core.Path.{◌≡◌, refl, sym, ◌∙◌}
-use Prim.Native.Nat.{◌-◌, ◌≤◌}
+use mathlib.Core.Path.{refl, sym, ◌∙◌}
 use native.Mathlib.Omega.{arith}
-use borrow.Author.Rules.{rules}
-use lib.ListN.{length}
 use Rattle.listing.proofs.list.list_taken.Goals as goal
 
 pub loop-i-init : goal.loop-i-init

@@ -1,7 +1,6 @@
 -- `listing::list::list_words` meets its contract: the part that is listed is no longer than the words.
 use mathlib.Core.Path.{sym}
 use native.Mathlib.Omega.{arith}
-use borrow.Author.Rules.{rules}
 use lib.Seq.{length-take-le}
 use Rattle.listing.proofs.list.list_words.Goals as goal
 

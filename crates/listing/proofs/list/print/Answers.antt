@@ -1,7 +1,6 @@
 -- `listing::list::print` meets its contract: the part that is written is no longer than the text.
 use mathlib.Core.Path.{sym}
 use native.Mathlib.Omega.{arith}
-use borrow.Author.Rules.{rules}
 use lib.Seq.{length-take-le}
 use Rattle.listing.proofs.list.print.Goals as goal
 

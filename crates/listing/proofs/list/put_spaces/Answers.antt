@@ -1,8 +1,5 @@
 -- `listing::list::put_spaces` is safe and ends: the loop keeps the buffer's length, and the measure is the number of spaces that are left.
-use mathlib.Core.Path.{◌≡◌, refl, ◌∙◌}
-use Prim.Native.Nat.{◌-◌}
-use borrow.Author.Rules.{rules}
-use lib.ListN.{length}
+use mathlib.Core.Path.{refl, ◌∙◌}
 use Rattle.listing.proofs.list.put_spaces.Goals as goal
 
 pub loop-i-init : goal.loop-i-init
