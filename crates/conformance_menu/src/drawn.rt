@@ -1,6 +1,6 @@
 // Drawn nets and markings, each with two plans: menu against the lister and the count of tries.
+use crate::case_kinds::{CASES, NO_VARIABLES, OVER, TWO_PLANS, count_kinds};
 use crate::compare::{Call, Due, compare, compare_all, due_refused};
-use crate::kinds::{CASES, NO_VARIABLES, OVER, TWO_PLANS, count_kinds};
 use conformance_draw::draw::{Draft, jump, next, pick};
 use conformance_draw::nets::{Head, beside, draw_head, marking};
 use conformance_draw::plans::draw_plan;

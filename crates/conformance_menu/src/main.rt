@@ -8,7 +8,7 @@ mod compare;
 // Drawn cases.
 mod drawn;
 // What a case has in it.
-mod kinds;
+mod case_kinds;
 // Examples of document 01 and outside cases.
 mod outside;
 

@@ -1,9 +1,9 @@
 // Cases read from standard input: the examples of document 01 and outside cases, worked out by an independent brute-force implementation of it. They stand in the
 // file stdin beside this folder, a line each, with bars between its fields: name; net; marking; transition, budget and room; refusal, position, N and W; the
 // words of the list. Each is held against menu; where the input is accepted, the lister and the count of tries are held against menu too.
+use crate::case_kinds::{CASES, OVER};
 use crate::compare::{Call, Due, compare};
 use crate::drawn::compare_net;
-use crate::kinds::{CASES, OVER};
 use conformance_lister::lister::list_all;
 use conformance_plain::build::{front, write};
 use conformance_plain::counts::{MOST_CELLS, counts_of, first_cell};

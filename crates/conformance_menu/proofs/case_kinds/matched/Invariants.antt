@@ -1,5 +1,5 @@
--- `conformance_menu::kinds::matched` is safe and ends. The measure is the number of turns that are left.
-use Rattle.conformance_menu.proofs.kinds.matched.Given as goal
+-- `conformance_menu::case_kinds::matched` is safe and ends. The measure is the number of turns that are left.
+use Rattle.conformance_menu.proofs.case_kinds.matched.Given as goal
 
 abbrev pub invariant-loop-left : goal.invariant-loop-left
 invariant-loop-left l = Unit {0}

@@ -1,6 +1,6 @@
--- `conformance_menu::kinds::before` is safe and ends. The measure is the number of turns that are left.
+-- `conformance_menu::case_kinds::before` is safe and ends. The measure is the number of turns that are left.
 use Rattle.std.proofs.Common.{◌-◌}
-use Rattle.conformance_menu.proofs.kinds.before.Given as goal
+use Rattle.conformance_menu.proofs.case_kinds.before.Given as goal
 
 abbrev pub invariant-loop-v : goal.invariant-loop-v
 invariant-loop-v l = Unit {0}
