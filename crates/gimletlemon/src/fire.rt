@@ -1,4 +1,4 @@
-// Fire for a C program.
+// Fire, with the answer told in lent numbers.
 ghost use Rattle.std.specs.Prelude.{◌≡◌};
 ghost use Rattle.semantics.specs.Answer.{fire_refusal, fire_length};
 ghost use Rattle.semantics.specs.Calls.{fire_call};

@@ -1,4 +1,4 @@
-// Menu for a C program.
+// Menu, with the answer told in lent numbers.
 ghost use Rattle.std.specs.Prelude.{◌≡◌};
 ghost use Rattle.semantics.specs.Answer.{menu_refusal, menu_bindings, menu_tries};
 ghost use Rattle.semantics.specs.Calls.{menu_call};

@@ -1,4 +1,4 @@
-// Check and split for a C program.
+// Check and split, with the answer told in lent numbers.
 ghost use Rattle.std.specs.Prelude.{◌≡◌, ◌-◌, length, drop};
 ghost use Rattle.semantics.specs.Answer.{check_refusal};
 ghost use Rattle.semantics.specs.Calls.{check_call, split_call, check_bytes_call};

@@ -1,4 +1,4 @@
-// Run for a C program.
+// Run, with the answer told in lent numbers.
 ghost use Rattle.std.specs.Prelude.{◌≡◌};
 ghost use Rattle.semantics.specs.Calls.{run_call};
 ghost use Rattle.answers.specs.Told.{told, run_refusal};

@@ -1,4 +1,4 @@
-// Test for a C program.
+// Test, with the answer told in lent numbers.
 ghost use Rattle.std.specs.Prelude.{◌≡◌};
 ghost use Rattle.semantics.specs.Answer.{test_refusal, test_yes};
 ghost use Rattle.semantics.specs.Calls.{test_call, test_bytes_call};
