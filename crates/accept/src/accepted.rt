@@ -1,66 +1,32 @@
 // Nets that are accepted, as their index: 1 to 3 by the reader, then 4 where the net stands alone, then 5.
 ghost use Rattle.std.specs.Prelude.{◌≡◌, ◌≤◌, length};
-ghost use Rattle.expression.specs.declared.read.Skipped.TheVariants.{Refused};
 ghost use Rattle.expression.specs.Skip.{forget, skipped};
 ghost use Rattle.accept.specs.Front.{settle, accept_to, IsExtent, IsIndex};
 
-use expression::read::Skipped;
-use kinds::take::{Taken, take};
-use net::index::{NetIndex, read_places, refusal_of};
-use plans::plan::{Fault, Reviewed, read_plans};
-
-// No net, but a refusal.
-pub fn refused_index(n: u32, p: usize) -> NetIndex
-    ensures { result.end ≡ Refused n p }
-{
-    let none = [0usize; 64];
-    NetIndex {
-        end: Skipped::Refused(n, p),
-        places: 0,
-        transitions: 0,
-        places_at: none,
-        widths: none,
-        transitions_at: none,
-    }
-}
+use kinds::take::take;
+use net::index::{NetIndex, read_places};
+use plans::plan::{Reviewed, read_plans};
+use semantics::refusal::Refusal;
 
 // Where a net ends that was read: 4 where it ends before the word `least`, then 5 where a plan is at fault.
-fn settled(plans: Reviewed, least: usize) -> Skipped
+fn settled(plans: Reviewed, least: usize) -> Result<usize, Refusal>
     ensures { result ≡ settle least plans.end plans.fault }
 {
-    let end = plans.end;
-    let fault = plans.fault;
-    match end {
-        Skipped::Refused(_, _) => end,
-        Skipped::Next(next) => {
-            if next < least {
-                return Skipped::Refused(4, next);
-            }
-            match fault {
-                Fault::At(q) => Skipped::Refused(5, q),
-                Fault::Nothing => end,
-            }
-        }
+    if plans.end < least {
+        return Err(Refusal::WordsLeft(plans.end));
+    }
+    match plans.fault {
+        Some(at) => Err(Refusal::UnfitPlan(at)),
+        None => Ok(plans.end),
     }
 }
 
-// Where a net ends or why it is refused, and how many places and transitions it has.
+// Where a net ends, and how many places and transitions it has.
 #[derive(Clone, Copy)]
 pub struct Extent {
-    pub end: Skipped,
+    pub end: usize,
     pub places: usize,
     pub transitions: usize,
-}
-
-// No net, but why it cannot be read.
-fn unread(end: Skipped) -> Extent
-    ensures { result.end ≡ end }
-{
-    Extent {
-        end: end,
-        places: 0,
-        transitions: 0,
-    }
 }
 
 // The net at the front of words, refused with 4 where it ends before the word `least`; where its places begin, their widths and where its
@@ -74,23 +40,17 @@ pub fn accept_into(
     transitions_at: &mut [usize],
     first: usize,
     table: &mut [usize],
-) -> Extent
+) -> Result<Extent, Refusal>
     requires places_at_len { length places_at.old ≡ 64 }
     requires widths_len { length widths.old ≡ 64 }
     requires transitions_at_len { length transitions_at.old ≡ 64 }
     requires in_bounds { 32 ≤ length table.old }
     ensures { IsExtent words.now least places_at.new widths.new transitions_at.new first table.new result }
 {
-    let head = take(words, 0, 1);
-    let Taken::Word(w) = head else {
-        return unread(refusal_of(head));
-    };
+    let w = take(words, 0, 1)?;
     let places = (w / 256 % 256) as usize;
     let transitions = (w % 256) as usize;
-    let end = read_places(words, places_at, widths, places, 1);
-    let Skipped::Next(from) = end else {
-        return unread(end);
-    };
+    let from = read_places(words, places_at, widths, places, 1)?;
     let plans = read_plans(
         words,
         &widths[..places],
@@ -99,17 +59,17 @@ pub fn accept_into(
         first,
         table,
         from,
-    );
-    let end = settled(plans, least);
-    Extent {
-        end: end,
-        places: places,
-        transitions: transitions,
-    }
+    )?;
+    let end = settled(plans, least)?;
+    Ok(Extent {
+        end,
+        places,
+        transitions,
+    })
 }
 
 // The net that the words are; where the parts of its transitions begin is written to a table, 32 numbers for each.
-pub fn accept_net(words: &[u32], table: &mut [usize]) -> NetIndex
+pub fn accept_net(words: &[u32], table: &mut [usize]) -> Result<NetIndex, Refusal>
     requires { 32 ≤ length table.old }
     ensures { IsIndex words.now table.new result }
 {
@@ -124,20 +84,19 @@ pub fn accept_net(words: &[u32], table: &mut [usize]) -> NetIndex
         &mut transitions,
         0,
         table,
-    );
-    let end = net.end;
-    NetIndex {
-        end: end,
+    )?;
+    Ok(NetIndex {
+        end: net.end,
         places: net.places,
         transitions: net.transitions,
         places_at: places,
         widths: widths,
         transitions_at: transitions,
-    }
+    })
 }
 
 // Where the net at the front of words ends, or why it is refused, with 4 where it ends before the word `least`.
-pub fn accepted_end(words: &[u32], least: usize) -> Skipped
+pub fn accepted_end(words: &[u32], least: usize) -> Result<usize, Refusal>
     ensures { skipped result ≡ forget (accept_to words.now least) }
 {
     let mut places = [0usize; 64];
@@ -152,6 +111,6 @@ pub fn accepted_end(words: &[u32], least: usize) -> Skipped
         &mut transitions,
         0,
         &mut table,
-    );
-    net.end
+    )?;
+    Ok(net.end)
 }

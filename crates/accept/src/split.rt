@@ -4,10 +4,10 @@ ghost use Rattle.semantics.specs.Calls.{split_call};
 ghost use Rattle.accept.specs.Front.{IsFront, split_into};
 
 use crate::accepted::accepted_end;
-use expression::read::Skipped;
+use semantics::refusal::Refusal;
 
 // Where the net at the front of words ends.
-fn front(words: &[u32]) -> Skipped
+fn front(words: &[u32]) -> Result<usize, Refusal>
     ensures { IsFront words.now result }
 {
     accepted_end(words, 0)
@@ -18,14 +18,14 @@ pub fn split<'a>(words: &'a [u32], refusal: &mut u32, position: &mut usize) -> &
     ensures { split_into result.now refusal.new position.new ≡ split_call words.now }
 {
     match front(words) {
-        Skipped::Next(next) => {
+        Ok(next) => {
             *refusal = 0;
             *position = 0;
             &words[next..]
         }
-        Skipped::Refused(n, p) => {
-            *refusal = n;
-            *position = p;
+        Err(e) => {
+            *refusal = e.number();
+            *position = e.position();
             &words[..0]
         }
     }

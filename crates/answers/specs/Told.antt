@@ -1,8 +1,7 @@
 -- What a C program is told of a refusal: the number that a function returns and the position that it writes.
 -- Rests on semantics/specs/Answer.
 use Rattle.std.specs.Prelude.{ℕ}
-use Rattle.semantics.specs.declared.Outcome.{Outcome}
-use Rattle.semantics.specs.Answer.{Refusal}
+use Rattle.semantics.specs.Answer.{Refusal, Outcome}
 
 abbrev pub told : ℕ → ℕ → Refusal
 told n p = record { number = n; position = p }

@@ -28,28 +28,16 @@ use Rattle.net.specs.Standing.{HasArc}
 use Rattle.net.proofs.Standing.{place_of, coefficient-inside, parts, arc-inside, place-there, components-read, coefficient-stands, components-stand}
 use Rattle.net.proofs.Placed.{ranges_at_lem, fits_at_lem, place_inside, place-room}
 use Rattle.colours.proofs.Codes.{code_below}
-use Rattle.arcs.specs.declared.flow.Coefficient.{Coefficient}
-use Rattle.arcs.specs.declared.flow.Coefficient.TheVariants.{Tokens, Nothing as Coefficient-none}
+use Rattle.std.specs.Prelude as prelude
+use Rattle.std.specs.Prelude.{Some, None}
+use Rattle.semantics.specs.Answer.{option_of}
 use Rattle.arcs.specs.declared.flow.Packed.{Packed}
 use Rattle.arcs.specs.declared.flow.Packed.TheVariants.{Code, Outside as Packed-outside, Nothing as Packed-none}
 use Rattle.arcs.specs.declared.flow.Moved.{Moved}
 use Rattle.arcs.specs.declared.flow.Moved.TheVariants.{Idle, Nothing}
 use Rattle.arcs.specs.Flow.{colour_at, tokens_by, coefficient_of, flow_at}
-use Rattle.arcs.specs.Keys.{width_of, coefficient_read, Packs, IsPacked, moved_by, Says, IsMoved}
-use Rattle.evaluation.proofs.Answers.{Valued}
+use Rattle.arcs.specs.Keys.{width_of, Packs, IsPacked, moved_by, Says, IsMoved}
 use Rattle.arcs.proofs.Packing.{packed_below}
-
--- ── A coefficient ──
-
-module _ {ws bs : List ℕ} {at : ℕ} where
-  pub coefficient-none : {next : ℕ} → Valued ws bs at none next → none ≡ coefficient_of (lent bs) (read_expression ws (length bs) at)
-  coefficient-none x = rw (x.reads, x.same)
-
-  pub coefficient_negative : {z : ℤ} {n next : ℕ} → Valued ws bs at (some z) next → z ≡ negsuc n → none ≡ coefficient_of (lent bs) (read_expression ws (length bs) at)
-  coefficient_negative x e = rw (x.reads, x.same, e)
-
-  pub coefficient_natural : {z : ℤ} {n next : ℕ} → Valued ws bs at (some z) next → z ≡ pos n → some (n, next) ≡ coefficient_of (lent bs) (read_expression ws (length bs) at)
-  coefficient_natural x e = rw (x.reads, x.same, e)
 
 -- ── An arc ──
 
@@ -72,12 +60,12 @@ module _ {ws ps : List ℕ} (bs : List ℕ) {at : ℕ} (a : HasArc ws ps (length
   unfolding flow
   flow-read = rw a.reads
 
-  tokens_read : (r : Coefficient) → coefficient_read r ≡ coefficient_of (lent bs) (read_expression ws (length bs) (at + 1)) → coefficient_read r ≡ tokens_by (parts a).mid (value house_table (lent bs) a.arc.coefficient)
+  tokens_read : (r : prelude.Option (ℕ × ℕ)) → option_of r ≡ coefficient_of (lent bs) (read_expression ws (length bs) (at + 1)) → option_of r ≡ tokens_by (parts a).mid (value house_table (lent bs) a.arc.coefficient)
   tokens_read r y = rw (parts a).coefficient at y
 
-  module _ {r : Coefficient} (y : coefficient_read r ≡ coefficient_of (lent bs) (read_expression ws (length bs) (at + 1))) where
+  module _ {r : prelude.Option (ℕ × ℕ)} (y : option_of r ≡ coefficient_of (lent bs) (read_expression ws (length bs) (at + 1))) where
     -- no tokens: the coefficient has no value or is negative
-    pub moves_nothing : r ≡ Coefficient-none → IsMoved ws ps bs at Nothing
+    pub moves_nothing : r ≡ None → IsMoved ws ps bs at Nothing
     unfolding bind
     moves_nothing d = record { says = by (value house_table (lent bs) a.arc.coefficient) refl (rw d at (tokens_read r y)) }
       where
@@ -91,7 +79,7 @@ module _ {ws ps : List ℕ} (bs : List ℕ) {at : ℕ} (a : HasArc ws ps (length
         by (some (negsuc n)) i f = flow-read ∙ rw i (negative n (values_of house_table (lent bs) a.arc.components))
 
     -- so many tokens
-    module _ {n next : ℕ} (d : r ≡ Tokens n next) where
+    module _ {n next : ℕ} (d : r ≡ Some (n, next)) where
       coefficient : (value house_table (lent bs) a.arc.coefficient ≡ some (pos n)) × (next ≡ (parts a).mid)
       coefficient = by (value house_table (lent bs) a.arc.coefficient) refl (rw d at (tokens_read r y))
         where

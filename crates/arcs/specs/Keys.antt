@@ -1,7 +1,8 @@
 -- What an arc moves, as the code tells it: a place and a colour are one number, a key, the place above the 56 bits of the colour's code.
 -- Rests on Flow and colours/specs/Code.
-use Rattle.std.specs.Prelude.{◌≡◌, ℕ, ◌+◌, ◌*◌, ◌/◌, ◌%◌, ◌≤◌, ◌<◌, ◌^◌, Bool, true, false, cond, ◌&&◌, ◌||◌, List, [], ◌∷◌, eqb, ℤ, get_or, length}
-use Rattle.std.proofs.Math.Option.{Option, none, some}
+use Rattle.std.specs.Prelude.{◌≡◌, ℕ, ◌+◌, ◌*◌, ◌/◌, ◌%◌, ◌≤◌, ◌<◌, ◌^◌, Bool, true, false, cond, ◌||◌, List, [], ◌∷◌, eqb, ℤ, get_or, length, Option, Some, None}
+use Rattle.std.proofs.Math.Option as definitions
+use Rattle.std.proofs.Math.Option.{none, some}
 use Rattle.semantics.specs.Word.{within}
 use Rattle.semantics.specs.Net.{ranges_at}
 use Rattle.semantics.specs.ReadNet.{read_expression}
@@ -11,11 +12,7 @@ use Rattle.word.specs.Fields.{range_word}
 use Rattle.evaluation.specs.Evaluate.{lent, Valuation, valued, evaluated_from}
 use Rattle.net.specs.Places.{ranges_from, width_at, places_at}
 use Rattle.colours.specs.Code.{of_digit, coloured}
-use Rattle.arcs.specs.declared.flow.Coefficient.{Coefficient}
-use Rattle.arcs.specs.declared.flow.Coefficient.TheVariants.{Tokens as Coefficient-tokens, Nothing as Coefficient-none}
 use Rattle.arcs.specs.declared.flow.Component.{Component}
-use Rattle.arcs.specs.declared.flow.Component.TheVariants.{Digit, Outside as Component-outside, Nothing as Component-none}
-use Rattle.arcs.specs.declared.flow.Coded.{Coded}
 use Rattle.arcs.specs.declared.flow.Packed.{Packed}
 use Rattle.arcs.specs.declared.flow.Packed.TheVariants.{Code, Outside as Packed-outside, Nothing as Packed-none}
 use Rattle.arcs.specs.declared.flow.Moved.{Moved}
@@ -54,35 +51,28 @@ pub record KeyFits (ws ps : List ℕ) (k : ℕ) : Type 0 where
 
 -- ── One arc ──
 
-abbrev pub coefficient_read : Coefficient → Option (ℕ × ℕ)
-coefficient_read (Coefficient-tokens n next) = some (n, next)
-coefficient_read Coefficient-none = none
+-- the digit of a component of the value z, or it is in no range
+abbrev pub IsDigit : ℤ → Option ℕ → Type 0
+IsDigit z (Some d) = (z ≡ of_digit d) × (d < 16384)
+IsDigit z None = (range : ℕ) → within (range_word range) z ≡ false
 
--- a component by its value: its digit, or it is in no range
-abbrev pub Componented : Valuation → Component → Type 0
-Componented v (Digit d next) = (v ≡ valued (some (of_digit d)) next) × (d < 16384)
-Componented v (Component-outside next) = (z : ℤ) × (v ≡ valued (some z) next) × ((range : ℕ) → within (range_word range) z ≡ false)
-Componented v Component-none = (next : ℕ) × (v ≡ valued none next)
+-- a component by its value
+abbrev pub Componented : Valuation → Option Component → Type 0
+Componented v (Some c) = (z : ℤ) × (v ≡ valued (some z) c.next) × IsDigit z c.digit
+Componented v None = (next : ℕ) × (v ≡ valued none next)
 
 -- the component at a position
-pub record IsComponent (ws bs : List ℕ) (at : ℕ) (r : Component) : Type 0 where
+pub record IsComponent (ws bs : List ℕ) (at : ℕ) (r : Option Component) : Type 0 where
   pub told : Componented (evaluated_from (lent bs) (read_expression ws (length bs) at)) r
 
--- a digit of the value z behind a code
-pub record Behind (code : ℕ) (z : ℤ) (r : ℕ) : Type 0 where
-  pub digit : ℕ
-  pub low : digit < 16384
-  pub value : of_digit digit ≡ z
-  pub same : r ≡ code * 16384 + digit
-
--- one component more, of the value z, held against a RANGE word
-pub record IsPut (c : Coded) (range : ℕ) (z : ℤ) (r : Coded) : Type 0 where
-  pub inside : r.inside ≡ (c.inside && within (range_word range) z)
-  pub coded : r.inside ≡ true → Behind c.code z r.code
-  pub outside : r.inside ≡ false → r.code ≤ c.code
+-- one component more behind a code, held against a RANGE word; none as soon as one is outside
+abbrev pub put_digit : Option ℕ → ℕ → Option ℕ → Option ℕ
+put_digit None range d = None
+put_digit (Some code) range None = None
+put_digit (Some code) range (Some d) = cond (within (range_word range) (of_digit d)) (Some (code * 16384 + d)) None
 
 -- a colour that may be missing, of n components, held against the RANGE words from a position on
-abbrev pub Packs : List ℕ → ℕ → ℕ → Option (List ℤ) → Packed → Type 0
+abbrev pub Packs : List ℕ → ℕ → ℕ → definitions.Option (List ℤ) → Packed → Type 0
 Packs ws ranges n o (Code k) = (o ≡ some (coloured n k)) × (k < 16384 ^ n) × (in_ranges (ranges_from ws n ranges) (coloured n k) ≡ true)
 Packs ws ranges n o Packed-outside = (c : List ℤ) × (o ≡ some c) × (in_ranges (ranges_from ws n ranges) c ≡ false)
 Packs ws ranges n o Packed-none = o ≡ none
@@ -107,7 +97,7 @@ abbrev pub fits_at : List ℕ → List ℕ → Flow → Bool
 fits_at ws ps f = eqb f.amount 0 || in_ranges (ranges_at (places_at ws ps) f.place) f.colour
 
 -- a flow that may be missing
-abbrev pub Says : List ℕ → List ℕ → Option Flow → Moved → Type 0
+abbrev pub Says : List ℕ → List ℕ → definitions.Option Flow → Moved → Type 0
 Says ws ps o (Tokens k a) = (o ≡ some (key_flow ws ps k a)) × KeyFits ws ps k × (1 ≤ a)
 Says ws ps o Idle = (f : Flow) × (o ≡ some f) × (f.amount ≡ 0)
 Says ws ps o Outside = (f : Flow) × (o ≡ some f) × (fits_at ws ps f ≡ false)

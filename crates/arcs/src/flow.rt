@@ -1,116 +1,91 @@
 // What an arc moves under lent binding words: so many tokens of a place and colour, which are one number, a key: the place above the 56 bits of a
 // colour's code.
-ghost use Rattle.std.specs.Prelude.{◌≡◌, ◌≤◌, ◌<◌, ◌+◌, ◌^◌, length};
+ghost use Rattle.std.specs.Prelude.{◌≡◌, ◌≤◌, ◌<◌, ◌+◌, ◌^◌, length, IfSome};
+ghost use Rattle.semantics.specs.Answer.{option_of};
 ghost use Rattle.semantics.specs.ReadNet.{read_expression};
 ghost use Rattle.expression.specs.Standing.{HasExpression, HasSeveral};
 ghost use Rattle.evaluation.specs.Evaluate.{lent, value_of, valued};
 ghost use Rattle.net.specs.Places.{PlacesFit};
 ghost use Rattle.net.specs.Standing.{HasArc};
-ghost use Rattle.colours.specs.Code.{of_digit};
 ghost use Rattle.arcs.specs.Flow.{coefficient_of};
-ghost use Rattle.arcs.specs.Keys.{coefficient_read, Componented, IsComponent, IsPut, IsPacked, Below, moved_by, IsMoved};
+ghost use Rattle.arcs.specs.Keys.{Componented, IsComponent, put_digit, IsPacked, Below, moved_by, IsMoved};
 
 use colours::code::digit_of;
 use colours::range::digit_in;
-use evaluation::evaluate::{Evaluated, evaluate};
+use evaluation::evaluate::evaluate;
 use word::fields::{kind, payload, value_word, within};
 
-// The tokens that a coefficient tells, and the position after it; none where it has no value or is negative.
-#[derive(Clone, Copy)]
-pub enum Coefficient {
-    Tokens(u32, usize),
-    Nothing,
-}
-
-// The coefficient that stands at a position.
-fn coefficient_at(net: &[u32], binding: &[u32], at: usize) -> Coefficient
+// The tokens that the coefficient at a position tells, and the position after it; none where it has no value or is negative.
+fn coefficient_at(net: &[u32], binding: &[u32], at: usize) -> Option<(u32, usize)>
     requires { HasExpression net.now (length binding.now) at }
-    ensures { coefficient_read result ≡ coefficient_of (lent binding.now) (read_expression net.now (length binding.now) at) }
+    ensures { option_of result ≡ coefficient_of (lent binding.now) (read_expression net.now (length binding.now) at) }
 {
-    match evaluate(net, binding, at) {
-        Evaluated::Value(z, next) => {
-            if z < 0 {
-                return Coefficient::Nothing;
-            }
-            Coefficient::Tokens(z as u32, next)
-        }
-        Evaluated::NoValue(_) => Coefficient::Nothing,
+    let told = evaluate(net, binding, at);
+    let z = told.value?;
+    if z < 0 {
+        return None;
     }
+    Some((z as u32, told.next))
 }
 
-// A component of a colour, and the position after it: its digit, or it has more than 14 bits; or it has no value.
+// A component of a colour that has a value: its digit, if it has no more than 14 bits, and the position after it.
 #[derive(Clone, Copy)]
-pub enum Component {
-    Digit(u64, usize),
-    Outside(usize),
-    Nothing,
+pub struct Component {
+    pub digit: Option<u64>,
+    pub next: usize,
 }
 
 // The component that operators make.
-fn computed_at(net: &[u32], binding: &[u32], at: usize) -> Component
+fn computed_at(net: &[u32], binding: &[u32], at: usize) -> Option<Component>
     requires { HasExpression net.now (length binding.now) at }
     ensures { IsComponent net.now binding.now at result }
 {
-    match evaluate(net, binding, at) {
-        Evaluated::Value(z, next) => {
-            if !within(-8192, 8191, z) {
-                return Component::Outside(next);
-            }
-            Component::Digit(digit_of(value_word(z)), next)
-        }
-        Evaluated::NoValue(_) => Component::Nothing,
-    }
+    let told = evaluate(net, binding, at);
+    let z = told.value?;
+    Some(Component {
+        digit: within(-8192, 8191, z).then_some(digit_of(value_word(z))),
+        next: told.next,
+    })
 }
 
 // The component that a word of the binding is: a VALUE word is its digit, no other word has a value.
-fn bound_digit(w: u32, next: usize) -> Component
+fn bound_digit(w: u32, next: usize) -> Option<Component>
     ensures { Componented (valued (value_of w) next) result }
 {
     if w / 16384 != 0x3_0000 {
-        return Component::Nothing;
+        return None;
     }
-    Component::Digit(digit_of(w), next)
+    Some(Component {
+        digit: Some(digit_of(w)),
+        next,
+    })
 }
 
 // The component that stands at a position. A constant or a lone variable, the common case, is a digit straight from its word.
-fn component_at(net: &[u32], binding: &[u32], at: usize) -> Component
+fn component_at(net: &[u32], binding: &[u32], at: usize) -> Option<Component>
     requires { HasExpression net.now (length binding.now) at }
     ensures { IsComponent net.now binding.now at result }
 {
     let w = net[at];
     match kind(w) {
-        7 => Component::Digit(digit_of(w), at + 1),
+        7 => Some(Component {
+            digit: Some(digit_of(w)),
+            next: at + 1,
+        }),
         8 => bound_digit(binding[payload(w) as usize], at + 1),
         0..=6 | 9..=15 => computed_at(net, binding, at),
         _ => computed_at(net, binding, at),
     }
 }
 
-// The code of some components, as long as each is in its range.
-#[derive(Clone, Copy)]
-pub struct Coded {
-    pub inside: bool,
-    pub code: u64,
-}
-
-// One component more, held against its RANGE word.
-fn put_digit(c: Coded, range: u32, d: u64) -> Coded
-    requires { (c.code < 2 ^ 42) × (d < 16384) }
-    ensures { IsPut c range (of_digit d) result }
+// One component more behind the code of others, held against its RANGE word: none as soon as one is outside its range.
+fn put_digit(coded: Option<u64>, range: u32, digit: Option<u64>) -> Option<u64>
+    requires { IfSome coded (λ c. c < 2 ^ 42) × IfSome digit (λ d. d < 16384) }
+    ensures { result ≡ put_digit coded range digit }
 {
-    if !c.inside {
-        return c;
-    }
-    if !digit_in(range, d) {
-        return Coded {
-            inside: false,
-            code: 0,
-        };
-    }
-    Coded {
-        inside: true,
-        code: c.code * 16384 + d,
-    }
+    let code = coded?;
+    let d = digit?;
+    digit_in(range, d).then_some(code * 16384 + d)
 }
 
 // The code of a colour; it is outside its place; or a component has no value.
@@ -127,33 +102,19 @@ fn pack(net: &[u32], binding: &[u32], ranges: usize, n: usize, at: usize) -> Pac
     requires has_several { HasSeveral net.now (length binding.now) n at }
     ensures { IsPacked net.now binding.now ranges n at result }
 {
-    let mut coded = Coded {
-        inside: true,
-        code: 0,
-    };
-    let mut i = 0;
+    let mut coded = Some(0);
     let mut next = at;
-    while i < n {
-        match component_at(net, binding, next) {
-            Component::Digit(d, p) => {
-                coded = put_digit(coded, net[ranges + i], d);
-                next = p;
-                i += 1;
-            }
-            Component::Outside(q) => {
-                coded.inside = false;
-                next = q;
-                i += 1;
-            }
-            Component::Nothing => {
-                return Packed::Nothing;
-            }
-        }
+    for i in 0..n {
+        let Some(component) = component_at(net, binding, next) else {
+            return Packed::Nothing;
+        };
+        coded = put_digit(coded, net[ranges + i], component.digit);
+        next = component.next;
     }
-    if coded.inside {
-        return Packed::Code(coded.code);
+    match coded {
+        Some(code) => Packed::Code(code),
+        None => Packed::Outside,
     }
-    Packed::Outside
 }
 
 // What an arc moves: so many tokens, at least one, of a key; none of any colour; some of a colour that its place cannot have; or it has no flow.
@@ -195,13 +156,11 @@ pub fn move_at(net: &[u32], places: &[usize], binding: &[u32], at: usize) -> Mov
     ensures { IsMoved net.now places.now binding.now at result }
 {
     let place = payload(net[at]) as usize;
-    match coefficient_at(net, binding, at + 1) {
-        Coefficient::Tokens(amount, next) => {
-            let from = places[place];
-            let width = payload(net[from]) as usize;
-            let colour = pack(net, binding, from + 1, width, next);
-            tokens_of(place, amount, colour)
-        }
-        Coefficient::Nothing => Moved::Nothing,
-    }
+    let Some((amount, next)) = coefficient_at(net, binding, at + 1) else {
+        return Moved::Nothing;
+    };
+    let from = places[place];
+    let width = payload(net[from]) as usize;
+    let colour = pack(net, binding, from + 1, width, next);
+    tokens_of(place, amount, colour)
 }

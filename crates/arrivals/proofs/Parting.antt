@@ -8,8 +8,9 @@ use Rattle.semantics.specs.Expression.{Expression}
 use Rattle.semantics.specs.Reading.{read, several}
 use Rattle.semantics.specs.ReadNet.{read_expression}
 use Rattle.semantics.proofs.Spans.{refused-read, several_split}
-use Rattle.expression.specs.declared.read.Skipped.{Skipped}
-use Rattle.expression.specs.declared.read.Skipped.TheVariants.{Next, Refused}
+use Rattle.std.specs.Prelude.{Result, Ok, Err}
+use Rattle.semantics.specs.declared.refusal.Refusal.{Refusal}
+use Rattle.semantics.specs.Answer.{number_of, position_of}
 use Rattle.expression.specs.Skip.{forget, skipped, Ahead, Skips}
 use Rattle.expression.proofs.Laws.{first_word, passed-read, passed-refused}
 use Rattle.net.proofs.Loops.{take-set}
@@ -41,17 +42,17 @@ module _ {ws : List ℕ} {v at n i next : ℕ} {parts : List ℕ} (a : Parting w
           let b : Begin [] f.0 = subst (λ (fs : List Expression). Begin [] fs) e tt in
           rw (k, append-nil (take n parts)) at (f.2 [] b)
 
-  module _ (k : i < n) (s : Skipped) (h : skipped s ≡ forget (read_expression ws v next)) where
-    pub parting_stops : {m q : ℕ} → s ≡ Refused m q → IsParts ws v at n parts
-    parting_stops {m} {q} d = record { full = a.full; begin = λ es end r. by es end (a.ahead es end r) }
+  module _ (k : i < n) (s : Result ℕ Refusal) (h : skipped s ≡ forget (read_expression ws v next)) where
+    pub parting_stops : {e : Refusal} → s ≡ Err e → IsParts ws v at n parts
+    parting_stops {e = r} d = record { full = a.full; begin = λ es end r. by es end (a.ahead es end r) }
       where
         by : (es : List Expression) (end : ℕ) → (fs : List Expression) × (several (n - i) (read_expression ws v) next ≡ read fs end) × ((ps : List ℕ) → Begin ps fs → Begin (take i parts ++ ps) es) → Begin (take n parts) es
         by es end f =
             let z : n - i ≡ suc (n - (i + 1)) = omega arith in
             let t = several_split (read_expression ws v) (n - (i + 1)) next f.0 end (rw z at f.1) in
-            refused-read m q t.first t.mid (sym (passed-refused (read_expression ws v next) s h d) ∙ t.reads)
+            refused-read (number_of r) (position_of r) t.first t.mid (sym (passed-refused (read_expression ws v next) s h d) ∙ t.reads)
 
-    pub parting_turn : {p : ℕ} → s ≡ Next p → n ≤ 4 → Parting ws v at n (i + 1) p (set parts i (get_or ws next 0))
+    pub parting_turn : {p : ℕ} → s ≡ Ok p → n ≤ 4 → Parting ws v at n (i + 1) p (set parts i (get_or ws next 0))
     parting_turn {p} d l =
         let full = a.full in
         record { full = length-set parts i (get_or ws next 0) ∙ full; near = omega arith; ahead = λ es end r. by es end (a.ahead es end r) }
@@ -73,5 +74,5 @@ module _ {ws : List ℕ} {v at n i next : ℕ} {parts : List ℕ} (a : Parting w
             )
 
 -- where an expression that was passed over ends
-pub skip_ahead : {ws : List ℕ} {at p : ℕ} {s : Skipped} → Skips ws at s → s ≡ Next p → Ahead ws at p
+pub skip_ahead : {ws : List ℕ} {at p : ℕ} {s : Result ℕ Refusal} → Skips ws at s → s ≡ Ok p → Ahead ws at p
 skip_ahead {ws} {at} h e = subst (Skips ws at) e h

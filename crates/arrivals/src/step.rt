@@ -7,7 +7,7 @@ ghost use Rattle.arrivals.specs.Step.{IsParts, Blank, Noted, IsTarget, Aims, IsM
 
 use counts::find::entries;
 use elements::element::{Element, Sort};
-use expression::read::{Skipped, skip_expression};
+use expression::read::skip_expression;
 use matches::colour::match_colour;
 use matches::known::{differs, known_parts};
 use solving::solve::solve_at;
@@ -43,19 +43,13 @@ fn parts_at(net: &[u32], variables: usize, at: usize, n: usize, parts: &mut [u32
     requires parts_len { length parts.old ≡ 4 }
     ensures { IsParts net.now variables at n parts.new }
 {
-    let mut i = 0;
     let mut next = at;
-    while i < n {
-        match skip_expression(net, variables, next) {
-            Skipped::Next(p) => {
-                parts[i] = net[next];
-                next = p;
-            }
-            Skipped::Refused(_, _) => {
-                return;
-            }
-        }
-        i += 1;
+    for i in 0..n {
+        let Ok(p) = skip_expression(net, variables, next) else {
+            return;
+        };
+        parts[i] = net[next];
+        next = p;
     }
 }
 
@@ -88,9 +82,9 @@ fn arrive_match(
     let count = entries(to - from, width + 1);
     Step {
         element: e,
-        count: count,
-        from: from,
-        width: width,
+        count,
+        from,
+        width,
     }
 }
 
@@ -116,8 +110,7 @@ pub fn arrive(
     requires blank { Blank parts.old known.old }
     ensures { IsArrival net.now places.now position variables inputs.now conjuncts.now marking.now begins.now e slots.now parts.new known.new result }
 {
-    let sort = e.sort;
-    match sort {
+    match e.sort {
         Sort::Match(k) => {
             if inputs.len() <= k {
                 return no_tries(e);
@@ -173,9 +166,7 @@ pub fn try_at(
     requires i_lt_count { i < s.count }
     ensures { IsTried variables (get_or (tries_by net.now ranges variables marking.now s parts.now (partial_of variables slots.old)) i none) slots.old result slots.new }
 {
-    let e = s.element;
-    let sort = e.sort;
-    match sort {
+    match s.element.sort {
         Sort::Match(_) => {
             let width = s.width;
             let at = s.from + i * (width + 1) + 1;

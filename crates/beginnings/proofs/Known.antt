@@ -13,18 +13,19 @@ use lib.Dec.{ltb}
 use lib.ListN.{length, length-set, get_or, set}
 use Rattle.semantics.specs.Refusal.{bad_marking}
 use Rattle.semantics.specs.Word.{kind, payload, bits}
-use Rattle.semantics.specs.Reading.{Reading, read, refused, then, word, values_in}
+use Rattle.semantics.specs.Reading.{Reading, read, refused, then, numbered, word, values_in}
 use Rattle.semantics.specs.Net.{Place, ranges_at}
 use Rattle.semantics.specs.Marking.{Entry, read_entry}
 use Rattle.semantics.proofs.Spans.{Span, then-read, read_same, refused-read, word_read, drop-first}
 use Rattle.semantics.proofs.Tests.{either}
-use Rattle.expression.specs.declared.read.Skipped.TheVariants.{Refused}
+use Rattle.semantics.specs.declared.refusal.Refusal.{Refusal}
+use Rattle.semantics.specs.declared.refusal.Refusal.TheVariants.{BadMarking}
+use Rattle.std.specs.Prelude.{Err}
 use Rattle.expression.specs.Skip.{forget}
 use Rattle.net.specs.Skim.{changed}
 use Rattle.net.specs.Places.{width_at, places_at, PlacesFit}
 use Rattle.net.proofs.Placed.{places-length, width_at_lem}
 use Rattle.semantics.proofs.ReadEntries.{token_in}
-use Rattle.marking.specs.declared.entry.EntryRead.TheVariants.{Entry as EntryAt, Refused as EntryRefused}
 use Rattle.marking.specs.Marked.{entry_place, Begun, rises_after, IsMarking}
 use Rattle.marking.proofs.Rising.{begun-none, begun_turn, entry_stands, SoFar, so_far_start, in_order, no_lesser, marking_ends, marking_refused, marking_unordered, marking_goes}
 use Rattle.beginnings.specs.Indexed.{Accepted, Indexed, Passed, Passes}
@@ -50,9 +51,13 @@ pub record Known (ps : List Place) (ws begins : List ℕ) (place at : ℕ) : Typ
 known_start : (ps : List Place) (ws begins : List ℕ) → length begins ≡ 65 → get_or begins 0 0 ≡ 0 → Known ps ws begins 0 0
 known_start ps ws begins l z = record { last = 0; so_far = so_far_start ps ws begins l z }
 
+-- an entry that is read, or a refusal, as the loop has it
+told : (ps : List Place) (ws : List ℕ) (at : ℕ) {x : Reading Entry} → read_entry ps ws at ≡ x → numbered bad_marking (changed entry_place x) ≡ numbered bad_marking (changed entry_place (read_entry ps ws at))
+told ps ws at r = sym (ap (λ x. numbered bad_marking (changed entry_place x)) r)
+
 -- a marking that is accepted is not refused
-never_refused : {ps : List Place} {ws : List ℕ} {q : ℕ} {begins : List ℕ} {G : Type 0} → Accepted ps ws → IsMarking ps ws (Refused bad_marking q) begins → G
-never_refused {q = q} A m = refused-read bad_marking q _ A.end (m.same ∙ ap forget A.marked)
+never_refused : {ps : List Place} {ws : List ℕ} {e : Refusal} {begins : List ℕ} {G : Type 0} → Accepted ps ws → IsMarking ps ws (Err e) begins → G
+never_refused A m = refused-read _ _ _ A.end (m.same ∙ ap forget A.marked)
 
 module _ {ps : List Place} {ws : List ℕ} (A : Accepted ps ws) {begins : List ℕ} {place at : ℕ} (K : Known ps ws begins place at) where
   known-end : {begins' : List ℕ} → length ps ≤ 64 → length ws ≤ at → length begins' ≡ length begins → Begun begins (place + 1) 65 at begins' → Indexed ps ws begins'
@@ -70,11 +75,11 @@ module _ {ps : List Place} {ws : List ℕ} (A : Accepted ps ws) {begins : List �
     where
       ordered : (e : Entry) (next : ℕ) → read_entry ps ws at ≡ read e next → (rises_after ws K.last place at e.place (next - at - 1) ≡ true) ⊎ (rises_after ws K.last place at e.place (next - at - 1) ≡ false) → Ahead
       ordered e next r (inl t) = record { entry = e; next = next; reads = r; rises = t }
-      ordered e next r (inr t) = never_refused A (marking_unordered K.so_far h {r = EntryAt e.place next} (sym (ap (changed entry_place) r)) refl {u = false} (sym t) refl)
+      ordered e next r (inr t) = never_refused A (marking_unordered K.so_far h (told _ _ _ r) (sym t))
 
       by : (x : Reading Entry) → read_entry ps ws at ≡ x → Ahead
       by (read e next) r = ordered e next r (either (rises_after ws K.last place at e.place (next - at - 1)))
-      by (refused n q) r = never_refused A (marking_refused K.so_far h {r = EntryRefused n q} (sym (ap (changed entry_place) r)) refl)
+      by (refused n q) r = never_refused A (marking_refused K.so_far h (BadMarking q) (told _ _ _ r))
 
 module _ (nws ats : List ℕ) {ws : List ℕ} (A : Accepted (places_at nws ats) ws) {begins : List ℕ} {place at : ℕ} (K : Known (places_at nws ats) ws begins place at) (h : at < length ws) where
   abbrev token : ℕ
@@ -105,7 +110,7 @@ module _ (nws ats : List ℕ) {ws : List ℕ} (A : Accepted (places_at nws ats) 
   known_goes : {begins' : List ℕ} → length begins' ≡ length begins → length ats ≤ 64 → Begun begins (place + 1) (token + 1) at begins' → Known (places_at nws ats) ws begins' token end
   known_goes {begins'} l few b = record {
     last = at;
-    so_far = subst (SoFar (places_at nws ats) ws begins' at token) ends (marking_goes K.so_far h {r = EntryAt token a.next} (sym (ap (changed entry_place) a.reads ∙ ap (λ (q : ℕ). read q a.next) here)) refl {u = true} (sym (rw here at a.rises)) refl l (let p = token_placed in omega arith) b);
+    so_far = subst (SoFar (places_at nws ats) ws begins' at token) ends (marking_goes K.so_far h (rw here at (told _ _ _ a.reads)) (sym (rw here at a.rises)) l (let p = token_placed in omega arith) b);
   }
 
 -- ── Entries of one place, passed by their size ──
@@ -232,10 +237,10 @@ module _ {nws ats ws : List ℕ} (F : PlacesFit nws ats) (A : Accepted (places_a
       (reached_turn (ap (λ (q : ℕ). 1 + q) e) (R.reached (set begins p at) (p + 1) (omega arith) l (begun_turn (begun-none begins p at) i (omega arith))) P)
 
   -- behind all places nothing can follow
-  pub ready_end : {begins begins' : List ℕ} {p at : ℕ} → Ready (places_at nws ats) ws begins p at → p ≤ length ats → length ats ≤ p → length begins' ≡ length begins → Begun begins p 65 at begins' → Indexed (places_at nws ats) ws begins'
-  ready_end {begins} {begins'} {p} {at} R h k l b = known-end A T.known (rw (places-length nws ats) F.few) (by (either (ltb at (length ws)))) T.long T.begun
+  pub ready_end : {begins begins' : List ℕ} {at : ℕ} → Ready (places_at nws ats) ws begins (length ats) at → length begins' ≡ length begins → Begun begins (length ats) 65 at begins' → Indexed (places_at nws ats) ws begins'
+  ready_end {begins} {begins'} {at} R l b = known-end A T.known (rw (places-length nws ats) F.few) (by (either (ltb at (length ws)))) T.long T.begun
     where
-      T : Reached (places_at nws ats) ws begins' p 65 at
+      T : Reached (places_at nws ats) ws begins' (length ats) 65 at
       T = R.reached begins' 65 (omega (arith, F.few)) l b
 
       by : (ltb at (length ws) ≡ true) ⊎ (ltb at (length ws) ≡ false) → length ws ≤ at

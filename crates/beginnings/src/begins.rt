@@ -14,6 +14,7 @@ fn pass_place(words: &[u32], from: usize, place: usize, size: usize) -> usize
     ensures { Passes words.now from place size result }
 {
     let mut at = from;
+    // A turn passes an entry, so that no index counts the turns.
     while at < words.len() {
         if (words[at] / 16384 % 256) as usize != place {
             return at;
@@ -31,12 +32,10 @@ pub fn index_marking(net: &[u32], places: &[usize], words: &[u32], begins: &mut 
     requires accepted { Accepted (places_at net.now places.now) words.now }
     ensures { Indexed (places_at net.now places.now) words.now begins.new }
 {
-    let mut p = 0;
     let mut at = 0;
-    while p < places.len() {
+    for p in 0..places.len() {
         begins[p] = at;
         at = pass_place(words, at, p, 1 + payload(net[places[p]]) as usize);
-        p += 1;
     }
-    begin_all(&mut begins[..], p, 65, at);
+    begin_all(&mut begins[..], places.len(), 65, at);
 }

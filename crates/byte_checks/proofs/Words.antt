@@ -8,8 +8,7 @@ use borrow.Author.Tests.{eq-eqb, ne_eqb}
 use lib.ListN.{length, take}
 use lib.Seq.{length-take-le, take-nil, take_at}
 use Rattle.semantics.specs.Word.{words_of_bytes}
-use Rattle.semantics.specs.declared.Verdict.{Verdict}
-use Rattle.semantics.specs.declared.Verdict.TheVariants.{Refused}
+use Rattle.semantics.specs.Answer.{Verdict, CheckRefused}
 use Rattle.semantics.specs.Calls.{check_call, check_bytes_call}
 use Rattle.semantics.proofs.Prefix.{check_prefix}
 use Rattle.word.proofs.Copying.{words-length}
@@ -34,7 +33,7 @@ enough-words bs ws rest n k l e h =
 
 -- ── Check ──
 
-pub bytes-refused : (bs : List ℕ) → (length bs % 4 ≡ 0 → ⊥) → Refused 2 (length bs / 4) ≡ check_bytes_call bs
+pub bytes-refused : (bs : List ℕ) → (length bs % 4 ≡ 0 → ⊥) → CheckRefused 2 (length bs / 4) ≡ check_bytes_call bs
 unfolding check_bytes_call
 bytes-refused bs h = rw (ne_eqb (length bs % 4) 0 h) refl
 

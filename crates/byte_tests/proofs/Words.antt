@@ -6,8 +6,7 @@ use Prim.Native.Nat.{ℕ, ◌/◌, ◌%◌}
 use borrow.Author.Tests.{eq-eqb, ne_eqb}
 use lib.ListN.{length}
 use Rattle.semantics.specs.Word.{words_of_bytes}
-use Rattle.semantics.specs.declared.Tested.{Tested}
-use Rattle.semantics.specs.declared.Tested.TheVariants.{Refused as TestRefused}
+use Rattle.semantics.specs.Answer.{Tested, TestRefused}
 use Rattle.semantics.specs.Calls.{test_call, test_bytes_call}
 use Rattle.semantics.proofs.Prefix.{test_prefix}
 use Rattle.byte_checks.specs.Alike.{ReadAlike}

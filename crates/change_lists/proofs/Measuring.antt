@@ -1,26 +1,26 @@
 -- The rules of measuring: the keys that are ahead, with what was measured so far, are what was ahead at first.
 use mathlib.Core.Path.{◌≡◌, refl, sym, ap, ◌∙◌, subst}
-use mathlib.Core.Bool.{true, false, not}
+use mathlib.Core.Bool.{true, false}
 use mathlib.Core.List.{List, ◌∷◌, ◌++◌, Memᴰ}
-use Prim.Native.Nat.{ℕ, suc, ◌+◌, ◌-◌, ◌*◌, ◌≤◌, ◌<◌}
-use borrow.Author.Tests.{eq-eqb, ne_eqb, not-true, not-false}
+use Rattle.std.specs.Prelude.{None}
+use Prim.Native.Nat.{ℕ, suc, ◌+◌, ◌*◌, ◌≤◌, ◌<◌}
+use borrow.Author.Tests.{eq-eqb, ne_eqb}
 use native.Mathlib.Omega.{arith}
 use lib.Dec.{leb}
 use lib.ListN.{length, length-append}
-use Rattle.semantics.specs.Refusal.{most_count}
 use Rattle.semantics.specs.Lists.{Every, every, select}
-use Rattle.semantics.specs.Marking.{Entry, counts_of, entry_words}
-use Rattle.semantics.proofs.Tests.{not_both, Every-at, Every-of, selected}
+use Rattle.semantics.specs.Marking.{Entry, entry_words}
+use Rattle.semantics.proofs.Tests.{Every-at, Every-of, selected}
 use Rattle.semantics.proofs.Members.{every_both}
 use Rattle.arcs.specs.Keys.{key_place, key_colour, KeyFits}
 use Rattle.gathering.specs.Gather.{sum_of}
 use Rattle.gathering.proofs.Keyed.{keys_total}
 use Rattle.patch.specs.Patch.{Change, old_length, new_length}
 use Rattle.changes.specs.declared.change.Changed.{Changed}
-use Rattle.changes.specs.Keys.{sort_keys, keys_from, no_key, first_of}
-use Rattle.changes.specs.Changes.{Moves, after, within, uneven_from, change_to, change_at, changes_from, Sees, IsChange}
+use Rattle.changes.specs.Keys.{sort_keys, keys_from, no_key, first_of, least_from}
+use Rattle.changes.specs.Changes.{Moves, after, within, uneven_from, change_to, change_at, changes_from, changed_count, Sees, IsChanged, IsChange}
 use Rattle.change_lists.specs.Lists.{IsMeasured}
-use Rattle.changes.proofs.Sorted.{Low, sort_of_lem, keys_stay, keys_next, keys_none, keys_few}
+use Rattle.changes.proofs.Sorted.{Low, sort_of_lem, first_both, keys_stay, keys_next, keys_none, keys_few}
 
 -- ── Keys that fit ──
 
@@ -45,6 +45,10 @@ module _ {ws ps ik ia ok oa begins : List ℕ} (m : Moves ws ps ik ia ok oa begi
 
   pub all_few : length (ik ++ ok) ≤ 16
   all_few = let a = m.ins.few in let b = m.outs.few in omega (arith, length-append ik ok)
+
+  -- the least of both lists from a number on is the first of all keys there
+  pub next_of : (floor : ℕ) {s r : ℕ} → s ≡ least_from floor no_key ik → r ≡ least_from floor s ok → r ≡ first_of (keys_from floor (ik ++ ok))
+  next_of floor e f = first_both floor ik ok ins-low outs-low e f
 
   -- a key that is asked for is the first of those from itself on
   module _ (floor : ℕ) {key : ℕ} (e : key ≡ first_of (keys_from floor (ik ++ ok))) where
@@ -88,16 +92,16 @@ module _ {ws ps ik ia ok oa ms begins : List ℕ} (m : Moves ws ps ik ia ok oa b
       }
 
   module _ {k old new : ℕ} (a : Measuring ws ps ik ia ok oa ms begins k old new) where
-    pub measuring_end : no_key ≤ k → {n : ℕ} → IsMeasured ws ps ik ia ok oa ms begins (record { over = false; n = n; old = old; new = new })
+    pub measuring_end : no_key ≤ k → {n : ℕ} → IsMeasured ws ps ik ia ok oa ms begins (record { n = n; old = old; new = new })
     unfolding every select old_length new_length
     measuring_end h =
         let e = keys_none k (ik ++ ok) (all_low m) h in
         let n = a.new-short in
         let o = a.old-short in
         record {
-          over = λ es v. ap not (rw e at (a.limit es v));
-          old = λ es v p. let s = rw e at (a.old-same es v) in omega arith;
-          new = λ es v p. let s = rw e at (a.new-same es v) in omega arith;
+          within = λ es v. sym (rw e at (a.limit es v));
+          old = λ es v. let s = rw e at (a.old-same es v) in omega arith;
+          new = λ es v. let s = rw e at (a.new-same es v) in omega arith;
           old-short = omega arith;
           new-short = omega arith;
         }
@@ -136,54 +140,51 @@ module _ {ws ps ik ia ok oa ms begins : List ℕ} (m : Moves ws ps ik ia ok oa b
 
         -- ── One whose count changes ──
 
-        module _ (i : taken ≡ made → ⊥) {c : Changed} (x : IsChange ws ps ms begins k taken made c) where
+        module _ (i : taken ≡ made → ⊥) where
           pub uneven_are : uneven_from ik ia ok oa k ≡ k ∷ uneven_from ik ia ok oa (k + 1)
           unfolding select
           uneven_are = rw (keys_are h, ne_eqb (sum_of ik ia k) (sum_of ok oa k) (λ e. i (t ∙ e ∙ sym d)))
 
-          after_is : (es : List Entry) → counts_of es (key_place k) (key_colour ws ps k) - taken + made ≡ after ws ps ik ia ok oa es (key_place k) (key_colour ws ps k)
+          after_is : (es : List Entry) → changed_count ws ps es k taken made ≡ after ws ps ik ia ok oa es (key_place k) (key_colour ws ps k)
           after_is es = let f = key_fits m a.first h in rw (t, d, keys_total ik ia m.ins.fit f, keys_total ok oa m.outs.fit f)
 
-          key-over : (es : List Entry) → Sees ws ps ms begins es → c.over ≡ not (within ws ps (after ws ps ik ia ok oa es) k)
-          key-over es v = x.over es v ∙ ap (λ (z : ℕ). not (leb z most_count)) (after_is es)
-
-          pub key-told : (es : List Entry) → Sees ws ps ms begins es → c.over ≡ false → record { place = key_place k; colour = key_colour ws ps k; count = c.count; at = c.at; old = c.old } ≡ change_at ws ps es (after ws ps ik ia ok oa es) k
-          key-told es v p = x.told es v p ∙ ap (change_to ws ps es k) (after_is es)
-
-          pub measuring_over : c.over ≡ true → IsMeasured ws ps ik ia ok oa ms begins (record { over = true; n = 0; old = 0; new = 0 })
+          -- a count that passes the limit
+          pub measuring_over : IsChange ws ps ms begins k taken made None → (es : List Entry) → Sees ws ps ms begins es → every (within ws ps (after ws ps ik ia ok oa es)) (uneven_from ik ia ok oa 0) ≡ false
           unfolding every
-          measuring_over y = record {
-            over = λ es v. let w = not-true (within ws ps (after ws ps ik ia ok oa es) k) (sym (key-over es v) ∙ y) in ap not (rw (uneven_are, w) at (a.limit es v));
-            old = λ es v p. absurd (not_both true refl p);
-            new = λ es v p. absurd (not_both true refl p);
-            old-short = omega arith;
-            new-short = omega arith;
-          }
+          measuring_over x es v =
+              let w : within ws ps (after ws ps ik ia ok oa es) k ≡ false = rw (← after_is es) (x es v) in
+              sym (rw (uneven_are, w) at (a.limit es v))
 
-          -- the words that the next change adds
-          pub measuring_room : (old + c.old ≤ 80) × (new + c.new ≤ 80)
-          measuring_room =
-              let l : length (keys_from k (ik ++ ok)) ≡ suc (length (keys_from (k + 1) (ik ++ ok))) = ap length (keys_are h) in
-              let a₁ = a.old-short in
-              let a₂ = a.new-short in
-              let b₁ = x.old-short in
-              let b₂ = x.new-short in
-              (omega arith, omega arith)
+          module _ {c : Changed} (x : IsChanged ws ps ms begins k taken made c) where
+            pub key-told : (es : List Entry) → Sees ws ps ms begins es → record { place = key_place k; colour = key_colour ws ps k; count = c.count; at = c.at; old = c.old } ≡ change_at ws ps es (after ws ps ik ia ok oa es) k
+            key-told es v = x.told es v ∙ ap (change_to ws ps es k) (after_is es)
 
-          pub measuring_turn : c.over ≡ false → {k' : ℕ} → k' ≡ first_of (keys_from (k + 1) (ik ++ ok)) → Measuring ws ps ik ia ok oa ms begins k' (old + c.old) (new + c.new)
-          unfolding every old_length new_length
-          measuring_turn y {k'} e =
-              let s = next-same m (k + 1) e in
-              let l : length (keys_from k (ik ++ ok)) ≡ suc (length (keys_from (k + 1) (ik ++ ok))) = ap length (keys_are h) in
-              let a₁ = a.old-short in
-              let a₂ = a.new-short in
-              let b₁ = x.old-short in
-              let b₂ = x.new-short in
-              record {
-                first = next-first m (k + 1) e;
-                limit = λ es v. let w = not-false (within ws ps (after ws ps ik ia ok oa es) k) (sym (key-over es v) ∙ y) in rw s (rw (uneven_are, w) at (a.limit es v));
-                old-same = λ es v. let d = ap (λ (c : Change). c.old) (key-told es v y) in let o = rw uneven_are at (a.old-same es v) in rw s (omega arith);
-                new-same = λ es v. let d = x.new ∙ ap (λ (c : Change). length (entry_words c.place c.colour c.count)) (key-told es v y) in let o = rw uneven_are at (a.new-same es v) in rw s (omega arith);
-                old-short = rw s (omega arith);
-                new-short = rw s (omega arith);
-              }
+            -- the words that the next change adds
+            pub measuring_room : (old + c.old ≤ 80) × (new + c.new ≤ 80)
+            measuring_room =
+                let l : length (keys_from k (ik ++ ok)) ≡ suc (length (keys_from (k + 1) (ik ++ ok))) = ap length (keys_are h) in
+                let a₁ = a.old-short in
+                let a₂ = a.new-short in
+                let b₁ = x.old-short in
+                let b₂ = x.new-short in
+                (omega arith, omega arith)
+
+            pub measuring_turn : {k' : ℕ} → k' ≡ first_of (keys_from (k + 1) (ik ++ ok)) → Measuring ws ps ik ia ok oa ms begins k' (old + c.old) (new + c.new)
+            unfolding every old_length new_length
+            measuring_turn {k'} e =
+                let s = next-same m (k + 1) e in
+                let l : length (keys_from k (ik ++ ok)) ≡ suc (length (keys_from (k + 1) (ik ++ ok))) = ap length (keys_are h) in
+                let a₁ = a.old-short in
+                let a₂ = a.new-short in
+                let b₁ = x.old-short in
+                let b₂ = x.new-short in
+                record {
+                  first = next-first m (k + 1) e;
+                  limit = λ es v.
+                      let w : within ws ps (after ws ps ik ia ok oa es) k ≡ true = rw (← after_is es) (x.within es v) in
+                      rw s (rw (uneven_are, w) at (a.limit es v));
+                  old-same = λ es v. let d = ap (λ (c : Change). c.old) (key-told es v) in let o = rw uneven_are at (a.old-same es v) in rw s (omega arith);
+                  new-same = λ es v. let d = x.new ∙ ap (λ (c : Change). length (entry_words c.place c.colour c.count)) (key-told es v) in let o = rw uneven_are at (a.new-same es v) in rw s (omega arith);
+                  old-short = rw s (omega arith);
+                  new-short = rw s (omega arith);
+                }

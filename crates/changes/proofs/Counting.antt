@@ -1,9 +1,11 @@
 -- The rules of the count of one key.
 use mathlib.Core.Path.{◌≡◌, refl, sym, ap, ◌∙◌}
-use mathlib.Core.Bool.{Bool, true, false, cond, not}
+use mathlib.Core.Logic.{◌⊎◌, inl, inr}
+use mathlib.Core.Bool.{Bool, true, false, cond}
 use mathlib.Core.List.{List}
 use Prim.Native.Nat.{ℕ, zero, suc, ◌+◌, ◌-◌, ◌≤◌, ◌<◌}
-use borrow.Author.Tests.{ne_eqb, le-leb, lt-leb}
+use borrow.Author.Tests.{ne_eqb, leb-true, le-leb, lt-leb}
+use Rattle.std.specs.Prelude.{Option, Some, None}
 use native.Mathlib.Omega.{arith}
 use lib.Dec.{leb, eqb}
 use lib.IntN.{ℤ}
@@ -11,7 +13,7 @@ use lib.ListN.{length, length-map}
 use Rattle.semantics.specs.Refusal.{most_count}
 use Rattle.semantics.specs.Word.{value_word}
 use Rattle.semantics.specs.Marking.{Entry, key, counts_of, entry_words}
-use Rattle.semantics.proofs.Tests.{not_both}
+use Rattle.semantics.proofs.Tests.{either}
 use Rattle.net.specs.Places.{places_at}
 use Rattle.net.proofs.Placed.{places-length}
 use Rattle.counts.specs.declared.find.Spot.{Spot}
@@ -21,16 +23,30 @@ use Rattle.colours.proofs.Codes.{coloured-length}
 use Rattle.arcs.specs.Keys.{key_place, key_code, width_of, key_colour, KeyFits}
 use Rattle.occurrence.proofs.Covering.{key-width}
 use Rattle.patch.specs.Patch.{Change}
-use Rattle.changes.specs.declared.change.NewCount.{NewCount}
-use Rattle.changes.specs.Changes.{IsCount, entry_size, Sees, IsChange}
+use Rattle.changes.specs.Changes.{within_limit, entry_size, changed_count, Sees, IsChanged, IsChange}
 
 -- ── One count ──
 
-pub count-over : (n : ℕ) → most_count < n → IsCount n (record { over = true; count = 0 })
-count-over n h = record { over = rw (lt-leb n most_count h); same = λ p. absurd (not_both true refl p); small = omega arith }
+pub count-over : (n : ℕ) → most_count < n → None ≡ within_limit n
+count-over n h = rw (lt-leb n most_count h)
 
-pub count-inside : (n k : ℕ) → k ≡ n → n ≤ most_count → IsCount n (record { over = false; count = k })
-count-inside n k e h = record { over = rw (le-leb n most_count h); same = λ p. e; small = omega arith }
+pub count-inside : (n k : ℕ) → k ≡ n → n ≤ most_count → Some k ≡ within_limit n
+count-inside n k e h = rw (e, le-leb n most_count h)
+
+-- a count that is told is within the limit, and one that is not passes it
+limit_some : (n : ℕ) {k : ℕ} → Some k ≡ within_limit n → (k ≡ n) × (n ≤ most_count)
+limit_some n {k} e = by (either (leb n most_count))
+  where
+    by : (leb n most_count ≡ true) ⊎ (leb n most_count ≡ false) → (k ≡ n) × (n ≤ most_count)
+    by (inl t) = let d : Some k ≡ Some n = rw t at e in (cc, leb-true n most_count t)
+    by (inr t) = let d : Some k ≡ None = rw t at e in cc
+
+limit_none : (n : ℕ) → None ≡ within_limit n → leb n most_count ≡ false
+limit_none n e = by (either (leb n most_count))
+  where
+    by : (leb n most_count ≡ true) ⊎ (leb n most_count ≡ false) → leb n most_count ≡ false
+    by (inl t) = let d : None ≡ Some n = rw t at e in cc
+    by (inr t) = t
 
 size-short : (count n : ℕ) → n ≤ 4 → entry_size count n ≤ 5
 size-short count n h = by (eqb count 0)
@@ -57,24 +73,29 @@ module _ {ws ps ms begins : List ℕ} {k : ℕ} (x : KeyFits ws ps k) {s : Spot}
   found : (es : List Entry) → Sees ws ps ms begins es → (s.at ≡ position_of es (key (key_place k) (key_colour ws ps k))) × (s.count ≡ counts_of es (key_place k) (key_colour ws ps k))
   found es v = f.found (places_at ws ps) es v.next v.marked v.begun (rw (places-length ws ps) x.there) (key-width x)
 
-  pub changed : {taken made : ℕ} {n : NewCount} {old new : ℕ} → IsCount (s.count - taken + made) n → old ≡ entry_size s.count width → new ≡ entry_size n.count width → IsChange ws ps ms begins k taken made (record { over = n.over; at = s.at; old = old; count = n.count; new = new })
-  changed {taken} {made} {n} {old} {new} c o e = record {
-    over = λ es v. c.over ∙ ap (λ (z : ℕ). not (leb z most_count)) (after_is es v);
-    told = λ es v p.
-        ap (λ (z : ℕ). change z s.at old) (c.same p ∙ after_is es v)
-        ∙ ap (λ (z : ℕ). change (counts_of es (key_place k) (key_colour ws ps k) - taken + made) z old) (found es v).0
-        ∙ ap (change (counts_of es (key_place k) (key_colour ws ps k) - taken + made) (position_of es (key (key_place k) (key_colour ws ps k)))) (size es v);
-    new = key-size ws ps k n.count w e;
-    small = c.small;
-    old-short = rw o (size-short s.count width narrow);
-    new-short = rw e (size-short n.count width narrow);
-  }
+  after_is : (es : List Entry) (taken made : ℕ) → Sees ws ps ms begins es → s.count - taken + made ≡ changed_count ws ps es k taken made
+  after_is es taken made v = ap (λ (z : ℕ). z - taken + made) (found es v).1
+
+  pub unchanged : (taken made : ℕ) → None ≡ within_limit (s.count - taken + made) → IsChange ws ps ms begins k taken made None
+  unchanged taken made e = λ es v. rw (← after_is es taken made v) (limit_none (s.count - taken + made) e)
+
+  pub changed : {taken made count old new : ℕ} → Some count ≡ within_limit (s.count - taken + made) → old ≡ entry_size s.count width → new ≡ entry_size count width → IsChanged ws ps ms begins k taken made (record { at = s.at; old = old; count = count; new = new })
+  changed {taken} {made} {count} {old} {new} c o e =
+      let l = limit_some (s.count - taken + made) c in
+      record {
+        within = λ es v. rw (← after_is es taken made v) (le-leb _ most_count l.1);
+        told = λ es v.
+            ap (λ (z : ℕ). change z s.at old) (l.0 ∙ after_is es taken made v)
+            ∙ ap (λ (z : ℕ). change (changed_count ws ps es k taken made) z old) (found es v).0
+            ∙ ap (change (changed_count ws ps es k taken made) (position_of es (key (key_place k) (key_colour ws ps k)))) (size es v);
+        new = key-size ws ps k count w e;
+        small = omega arith;
+        old-short = rw o (size-short s.count width narrow);
+        new-short = rw e (size-short count width narrow);
+      }
     where
       change : ℕ → ℕ → ℕ → Change
       change z a b = record { place = key_place k; colour = key_colour ws ps k; count = z; at = a; old = b }
-
-      after_is : (es : List Entry) → Sees ws ps ms begins es → s.count - taken + made ≡ counts_of es (key_place k) (key_colour ws ps k) - taken + made
-      after_is es v = ap (λ (z : ℕ). z - taken + made) (found es v).1
 
       size : (es : List Entry) → Sees ws ps ms begins es → old ≡ entry_size (counts_of es (key_place k) (key_colour ws ps k)) (length (key_colour ws ps k))
       size es v = o ∙ ap (λ (z : ℕ). entry_size z width) (found es v).1 ∙ ap (entry_size (counts_of es (key_place k) (key_colour ws ps k))) (key-wide ws ps k w)

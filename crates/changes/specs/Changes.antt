@@ -1,7 +1,7 @@
 -- 01, "Enabling and stepping": "each count after (count - inputs + outputs) at most 16,383". The counts that a step changes are those of the
 -- keys of which something else is made than is taken; they are told rising, each once, and where their old entries are.
 -- Rests on Keys, arcs/specs/Keys, gathering/specs/Gather, patch/specs/Patch and semantics/specs/Enabling.
-use Rattle.std.specs.Prelude.{◌≡◌, Bool, false, cond, not, List, ◌++◌, map, ℕ, ◌+◌, ◌-◌, ◌≤◌, ◌<◌, leb, eqb, length}
+use Rattle.std.specs.Prelude.{◌≡◌, Bool, true, false, cond, not, Option, Some, None, List, ◌++◌, map, ℕ, ◌+◌, ◌-◌, ◌≤◌, ◌<◌, leb, eqb, length}
 use Rattle.semantics.specs.Refusal.{most_count}
 use Rattle.semantics.specs.Lists.{Every, select}
 use Rattle.semantics.specs.Reading.{read}
@@ -12,17 +12,14 @@ use Rattle.marking.specs.Marked.{marking_read, Begins, position_of}
 use Rattle.arcs.specs.Keys.{key_place, key_colour, key_flows, KeyFits}
 use Rattle.gathering.specs.Gather.{sum_of}
 use Rattle.patch.specs.Patch.{Change}
-use Rattle.changes.specs.declared.change.NewCount.{NewCount}
 use Rattle.changes.specs.declared.change.Changed.{Changed}
 use Rattle.changes.specs.Keys.{keys_from}
 
 -- ── One count ──
 
--- a count that is at most 16,383
-pub record IsCount (n : ℕ) (r : NewCount) : Type 0 where
-  pub over : r.over ≡ not (leb n most_count)
-  pub same : r.over ≡ false → r.count ≡ n
-  pub small : r.count < 16384
+-- a count, if it is at most 16,383
+abbrev pub within_limit : ℕ → Option ℕ
+within_limit n = cond (leb n most_count) (Some n) None
 
 -- the words of an entry of n components
 abbrev pub entry_size : ℕ → ℕ → ℕ
@@ -78,11 +75,19 @@ pub record Sees (ws ps ms begins : List ℕ) (es : List Entry) : Type 0 where
   pub marked : marking_read (places_at ws ps) ms ≡ read es next
   pub begun : Begins (places_at ws ps) es begins
 
--- the change of a key of which so much is taken and made
-pub record IsChange (ws ps ms begins : List ℕ) (k taken made : ℕ) (r : Changed) : Type 0 where
-  pub over : (es : List Entry) → Sees ws ps ms begins es → r.over ≡ not (leb (counts_of es (key_place k) (key_colour ws ps k) - taken + made) most_count)
-  pub told : (es : List Entry) → Sees ws ps ms begins es → r.over ≡ false → record { place = key_place k; colour = key_colour ws ps k; count = r.count; at = r.at; old = r.old } ≡ change_to ws ps es k (counts_of es (key_place k) (key_colour ws ps k) - taken + made)
+-- the count of a key of which so much is taken and made
+abbrev pub changed_count : List ℕ → List ℕ → List Entry → ℕ → ℕ → ℕ → ℕ
+changed_count ws ps es k taken made = counts_of es (key_place k) (key_colour ws ps k) - taken + made
+
+-- its change, where that count is at most 16,383
+pub record IsChanged (ws ps ms begins : List ℕ) (k taken made : ℕ) (r : Changed) : Type 0 where
+  pub within : (es : List Entry) → Sees ws ps ms begins es → leb (changed_count ws ps es k taken made) most_count ≡ true
+  pub told : (es : List Entry) → Sees ws ps ms begins es → record { place = key_place k; colour = key_colour ws ps k; count = r.count; at = r.at; old = r.old } ≡ change_to ws ps es k (changed_count ws ps es k taken made)
   pub new : r.new ≡ length (entry_words (key_place k) (key_colour ws ps k) r.count)
   pub small : r.count < 16384
   pub old-short : r.old ≤ 5
   pub new-short : r.new ≤ 5
+
+abbrev pub IsChange : List ℕ → List ℕ → List ℕ → List ℕ → ℕ → ℕ → ℕ → Option Changed → Type 0
+IsChange ws ps ms begins k taken made (Some r) = IsChanged ws ps ms begins k taken made r
+IsChange ws ps ms begins k taken made None = (es : List Entry) → Sees ws ps ms begins es → leb (changed_count ws ps es k taken made) most_count ≡ false

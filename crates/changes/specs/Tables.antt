@@ -1,15 +1,22 @@
 -- A list of changes, in tables: a row tells the key of a change, its count, and where its old entry is and how long.
 -- Rests on arcs/specs/Keys and patch/specs/Patch.
-use Rattle.std.specs.Prelude.{◌≡◌, List, [], ◌∷◌, ℕ, zero, suc, ◌≤◌, ◌<◌, length, get_or}
+use Rattle.std.specs.Prelude.{List, map, [], ◌∷◌, ℕ, zero, suc, ◌≤◌, ◌<◌, length, get_or}
 use Rattle.arcs.specs.Keys.{key_place, key_colour}
 use Rattle.patch.specs.Patch.{Change}
+use Rattle.changes.specs.declared.change.Row.{Row}
 
--- tables of sixteen rows
-pub record Tables (keys ats olds counts : List ℕ) : Type 0 where
-  pub long_keys : length keys ≡ 16
-  pub long-ats : length ats ≡ 16
-  pub long_olds : length olds ≡ 16
-  pub long-counts : length counts ≡ 16
+-- the tables: the columns of the rows
+abbrev pub keys_told : List Row → List ℕ
+keys_told rs = map (λ r. r.key) rs
+
+abbrev pub ats_told : List Row → List ℕ
+ats_told rs = map (λ r. r.at) rs
+
+abbrev pub olds_told : List Row → List ℕ
+olds_told rs = map (λ r. r.old) rs
+
+abbrev pub counts_told : List Row → List ℕ
+counts_told rs = map (λ r. r.count) rs
 
 -- the change in row i
 abbrev pub row_at : List ℕ → List ℕ → List ℕ → List ℕ → List ℕ → List ℕ → ℕ → Change

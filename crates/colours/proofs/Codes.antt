@@ -205,6 +205,18 @@ code_one ws at {r} b =
     let e : at ≡ at + 0 = omega arith in
     code_more ws 0 at (code_none ws at) (subst (λ (k : ℕ). IsBehind 0 (get_or ws k 0) r) e b)
 
+-- of two words and more, by that of each put behind
+module _ (ws : List ℕ) (at : ℕ) {one two : ℕ} (a : IsBehind 0 (get_or ws at 0) one) (b : IsBehind one (get_or ws (at + 1) 0) two) where
+  pub code_two : IsCode 2 (values_at ws 2 at) two
+  code_two = code_more ws 1 at (code_one ws at a) b
+
+  module _ {three : ℕ} (c : IsBehind two (get_or ws (at + 2) 0) three) where
+    pub code_three : IsCode 3 (values_at ws 3 at) three
+    code_three = code_more ws 2 at code_two c
+
+    pub code_four : {r : ℕ} → IsBehind three (get_or ws (at + 3) 0) r → IsCode 4 (values_at ws 4 at) r
+    code_four d = code_more ws 3 at code_three d
+
 -- a code of words against another of as many digits
 pub coded-before : {n : ℕ} {c : List ℤ} {a : ℕ} (b : ℕ) → IsCode n c a → b < 16384 ^ n → ltb a b ≡ before c (coloured n b)
 coded-before {n} {c} {a} b x h = sym (code_before n a b x.small h) ∙ ap (λ (l : List ℤ). before l (coloured n b)) x.same

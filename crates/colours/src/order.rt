@@ -3,7 +3,7 @@ ghost use Rattle.std.specs.Prelude.{◌≡◌, ◌≤◌, ◌+◌, length};
 ghost use Rattle.semantics.specs.Order.{before};
 ghost use Rattle.colours.specs.Values.{values_at};
 
-use numbers::number::{equal, less};
+use std::cmp::Ordering;
 use word::fields::signed;
 
 // Whether the n VALUE words at one position stand before those at another.
@@ -12,17 +12,12 @@ pub fn values_before(words: &[u32], a: usize, b: usize, n: usize) -> bool
     requires n_in_bounds_2 { b + n ≤ length words.now }
     ensures { result ≡ before (values_at words.now n a) (values_at words.now n b) }
 {
-    let mut i = 0;
-    while i < n {
-        let x = signed(words[a + i]);
-        let y = signed(words[b + i]);
-        if less(x, y) {
-            return true;
+    for i in 0..n {
+        match signed(words[a + i]).cmp(&signed(words[b + i])) {
+            Ordering::Less => return true,
+            Ordering::Greater => return false,
+            Ordering::Equal => {}
         }
-        if !equal(x, y) {
-            return false;
-        }
-        i += 1;
     }
     false
 }

@@ -8,8 +8,8 @@ ghost use Rattle.semantics.proofs.Spans.{value_in};
 
 use crate::code::digit_of;
 use crate::range::digit_in;
-use expression::read::Skipped;
-use kinds::take::{Taken, take};
+use kinds::take::take;
+use semantics::refusal::Refusal;
 
 // Whether the 28 bits of a VALUE word are a value in the range of a RANGE word.
 fn fits_range(p: u32, range: u32) -> bool
@@ -21,26 +21,22 @@ fn fits_range(p: u32, range: u32) -> bool
     digit_in(range, digit_of(p))
 }
 
-// Passes over n VALUE words, each in the range of one of the n RANGE words of the net from a position on.
-pub fn read_values(words: &[u32], at: usize, net: &[u32], from: usize, n: usize) -> Skipped
+// The position after n VALUE words, each in the range of one of the n RANGE words of the net from a position on.
+pub fn read_values(
+    words: &[u32],
+    at: usize,
+    net: &[u32],
+    from: usize,
+    n: usize,
+) -> Result<usize, Refusal>
     requires { from + n ≤ length net.now }
     ensures { skipped result ≡ forget (values_in words.now (ranges_from net.now n from) at) }
 {
-    let mut i = 0;
-    let mut next = at;
-    while i < n {
-        match take(words, next, 12) {
-            Taken::Word(p) => {
-                if !fits_range(p, net[from + i]) {
-                    return Skipped::Refused(3, next);
-                }
-                next += 1;
-            }
-            Taken::Refused(m, q) => {
-                return Skipped::Refused(m, q);
-            }
+    for i in 0..n {
+        let p = take(words, at + i, 12)?;
+        if !fits_range(p, net[from + i]) {
+            return Err(Refusal::BadWord(at + i));
         }
-        i += 1;
     }
-    Skipped::Next(next)
+    Ok(at + n)
 }

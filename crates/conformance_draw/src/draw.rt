@@ -1,6 +1,5 @@
 // A fixed sequence of numbers, and expressions drawn from it. A signed number is a u32 that wraps.
 use conformance_plain::build::put;
-use std::num::{wrapping_add_u32, wrapping_sub_u32};
 
 // The next state of the sequence.
 pub fn next(seed: u64) -> u64 {
@@ -20,55 +19,6 @@ pub fn pick(seed: u64, n: u32) -> u32 {
     (seed / 0x1_0000 % 0x8000) as u32 % n
 }
 
-// Words that are being drawn: the position after them, and the state of the sequence.
-#[derive(Clone, Copy)]
-pub struct Draft {
-    pub at: usize,
-    pub seed: u64,
-}
-
-// One word more.
-pub fn word(words: &mut [u32], d: Draft, w: u32) -> Draft {
-    Draft {
-        at: put(words, d.at, w),
-        seed: d.seed,
-    }
-}
-
-// The next state, with the words as they are.
-pub fn step(d: Draft) -> Draft {
-    Draft {
-        at: d.at,
-        seed: next(d.seed),
-    }
-}
-
-pub fn constant(words: &mut [u32], d: Draft, v: u32) -> Draft {
-    word(words, d, 0x7000_0000 + v % 0x4000)
-}
-
-// Some variable.
-pub fn variable(words: &mut [u32], d: Draft, variables: u32) -> Draft {
-    let e = step(d);
-    word(words, e, 0x8000_0000 + pick(e.seed, variables) % 8)
-}
-
-// A variable, or a constant from -3 to 5 or at an end of the values.
-pub fn leaf(words: &mut [u32], d: Draft, variables: u32) -> Draft {
-    let e = step(d);
-    let k = pick(e.seed, 40);
-    if 20 <= k {
-        if 0 < variables {
-            return variable(words, e, variables);
-        }
-    }
-    match k % 20 {
-        18 => constant(words, e, 8191),
-        19 => constant(words, e, 8192),
-        _ => constant(words, e, wrapping_sub_u32(k % 20 / 2, 3)),
-    }
-}
-
 // The code of an operator: add and subtract more often than the others.
 fn code_of(k: u32) -> u32 {
     match k {
@@ -80,66 +30,121 @@ fn code_of(k: u32) -> u32 {
     }
 }
 
-// An operator on leaves.
-fn shallow(words: &mut [u32], d: Draft, variables: u32) -> Draft {
-    let e = step(d);
-    let code = code_of(pick(e.seed, 11));
-    let put = word(words, e, 0x9000_0000 + code % 16);
-    if code == 4 {
-        return leaf(words, put, variables);
+// Words that are being drawn: the buffer that they go to, the position after them, and the state of the sequence.
+#[derive(Drop)]
+pub struct Draft<'w> {
+    pub words: &'w mut [u32],
+    pub at: usize,
+    pub seed: u64,
+}
+
+// Where a draft ended.
+#[derive(Clone, Copy)]
+pub struct End {
+    pub at: usize,
+    pub seed: u64,
+}
+
+impl Draft<'_> {
+    // One word more.
+    pub fn word(&mut self, w: u32) {
+        self.at = put(self.words, self.at, w);
     }
-    two(words, put, variables)
-}
 
-fn two(words: &mut [u32], d: Draft, variables: u32) -> Draft {
-    let a = leaf(words, d, variables);
-    leaf(words, a, variables)
-}
+    // The number of the state, below n.
+    pub fn pick(&self, n: u32) -> u32 {
+        pick(self.seed, n)
+    }
 
-// An operator on leaves, or on a leaf and such an expression.
-pub fn operator(words: &mut [u32], d: Draft, variables: u32) -> Draft {
-    let e = step(d);
-    let k = pick(e.seed, 10);
-    match k {
-        0..=2 => {
-            let outer = word(words, e, wrapping_add_u32(0x9000_0000, k));
-            let inner = shallow(words, outer, variables);
-            leaf(words, inner, variables)
+    // The number of the next state, below n.
+    pub fn draw(&mut self, n: u32) -> u32 {
+        self.seed = next(self.seed);
+        self.pick(n)
+    }
+
+    pub fn end(&self) -> End {
+        End {
+            at: self.at,
+            seed: self.seed,
         }
-        3 => {
-            let load = word(words, e, 0x9000_0004);
-            shallow(words, load, variables)
+    }
+
+    pub fn constant(&mut self, v: u32) {
+        self.word(0x7000_0000 + v % 0x4000);
+    }
+
+    // Some variable.
+    pub fn variable(&mut self, variables: u32) {
+        let v = self.draw(variables);
+        self.word(0x8000_0000 + v % 8);
+    }
+
+    // A variable, or a constant from -3 to 5 or at an end of the values.
+    pub fn leaf(&mut self, variables: u32) {
+        let k = self.draw(40);
+        if 20 <= k && 0 < variables {
+            self.variable(variables);
+            return;
         }
-        _ => shallow(words, e, variables),
+        match k % 20 {
+            18 => self.constant(8191),
+            19 => self.constant(8192),
+            small => self.constant((small / 2).wrapping_sub(3)),
+        }
     }
-}
 
-// A variable and -1, 0 or 1, added.
-pub fn offset(words: &mut [u32], d: Draft, variables: u32) -> Draft {
-    let e = step(d);
-    let add = word(words, e, 0x9000_0000);
-    let first = variable(words, add, variables);
-    constant(words, first, wrapping_sub_u32(pick(e.seed, 3), 1))
-}
-
-// A leaf or an operator.
-pub fn expression(words: &mut [u32], d: Draft, variables: u32) -> Draft {
-    let e = step(d);
-    if pick(e.seed, 2) == 0 {
-        return leaf(words, e, variables);
+    // An operator on leaves.
+    fn shallow(&mut self, variables: u32) {
+        let code = code_of(self.draw(11));
+        self.word(0x9000_0000 + code % 16);
+        self.leaf(variables);
+        if code != 4 {
+            self.leaf(variables);
+        }
     }
-    operator(words, e, variables)
-}
 
-// Mostly a constant from 0 to 3.
-pub fn coefficient(words: &mut [u32], d: Draft, variables: u32) -> Draft {
-    let e = step(d);
-    match pick(e.seed, 20) {
-        0..=2 => constant(words, e, 0),
-        3..=14 => constant(words, e, 1),
-        15..=16 => constant(words, e, 2),
-        17 => constant(words, e, 3),
-        18 => leaf(words, e, variables),
-        _ => expression(words, e, variables),
+    // An operator on leaves, or on a leaf and such an expression.
+    pub fn operator(&mut self, variables: u32) {
+        match self.draw(10) {
+            k @ 0..=2 => {
+                self.word(0x9000_0000 + k);
+                self.shallow(variables);
+                self.leaf(variables);
+            }
+            3 => {
+                self.word(0x9000_0004);
+                self.shallow(variables);
+            }
+            _ => self.shallow(variables),
+        }
+    }
+
+    // A variable and -1, 0 or 1, added.
+    pub fn offset(&mut self, variables: u32) {
+        let k = self.draw(3);
+        self.word(0x9000_0000);
+        self.variable(variables);
+        self.constant(k.wrapping_sub(1));
+    }
+
+    // A leaf or an operator.
+    pub fn expression(&mut self, variables: u32) {
+        if self.draw(2) == 0 {
+            self.leaf(variables);
+        } else {
+            self.operator(variables);
+        }
+    }
+
+    // Mostly a constant from 0 to 3.
+    pub fn coefficient(&mut self, variables: u32) {
+        match self.draw(20) {
+            0..=2 => self.constant(0),
+            3..=14 => self.constant(1),
+            15..=16 => self.constant(2),
+            17 => self.constant(3),
+            18 => self.leaf(variables),
+            _ => self.expression(variables),
+        }
     }
 }

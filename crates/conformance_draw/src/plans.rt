@@ -1,15 +1,12 @@
 // Plans drawn for a transition, each element one that document 01 says is fit.
 use crate::draw::{Draft, next, pick};
 use conformance_plain::build::put;
-use conformance_plain::reading::{
-    Shape, components, get, kind, place_of, plus, shape_of, skip, skip_arcs, skip_conjuncts, wide,
-};
-use conformance_plain::slots::{Slots, bound, is_new_variable, slot, unbound, with};
-use std::num::{wrapping_add_u32, wrapping_sub_usize};
+use conformance_plain::reading::{Shape, components, get, kind, place_of, shape_of, skip};
+use conformance_plain::slots::Slots;
 
 // Binds a variable, by the slot of value 0.
 fn take(b: Slots, v: u32) -> Slots {
-    with(b, wide(v), 0xC000_0000)
+    b.with(v, 0xC000_0000)
 }
 
 // Binds the variable that stands alone at a position, if one does.
@@ -24,73 +21,59 @@ fn take_lone(net: &[u32], at: usize, b: Slots) -> Slots {
 // Binds the variables that stand alone as components of the arc at a position.
 fn take_components(net: &[u32], arc: usize, b: Slots) -> Slots {
     let mut c = b;
-    let mut at = skip(net, plus(arc, 1));
-    let mut left = components(net, place_of(net, arc));
-    while 0 < left {
+    let mut at = skip(net, arc.wrapping_add(1));
+    for _ in 0..components(net, place_of(net, arc)) {
         c = take_lone(net, at, c);
         at = skip(net, at);
-        left -= 1;
     }
     c
 }
 
 // Whether every variable of an expression is bound.
 fn is_bound(net: &[u32], start: usize, b: Slots) -> bool {
-    let mut at = start;
-    let mut left = wrapping_sub_usize(skip(net, start), start);
-    while 0 < left {
-        if is_new_variable(net, at, b) {
-            return false;
-        }
-        at = plus(at, 1);
-        left -= 1;
-    }
-    true
+    (start..skip(net, start)).all(|at| !b.is_new_variable(net, at))
 }
 
 // The arc at a position has a CONSTANT of at least 1 for its coefficient.
 fn is_constant(net: &[u32], arc: usize) -> bool {
-    let w = get(net, plus(arc, 1));
-    if kind(w) != 7 {
-        return false;
-    }
-    0 < w % 0x4000 && w % 0x4000 < 0x2000
+    let w = get(net, arc.wrapping_add(1));
+    kind(w) == 7 && 0 < w % 0x4000 && w % 0x4000 < 0x2000
 }
 
 // The bound variables after a match; as they were where it is unfit.
-fn after_match(net: &[u32], s: Shape, b: Slots, number: u32) -> Slots {
+fn after_match(s: Shape<'_>, b: Slots, number: u32) -> Slots {
     if s.inputs <= number {
         return b;
     }
-    let arc = skip_arcs(net, s.inputs_at, number);
-    if is_constant(net, arc) {
-        return take_components(net, arc, b);
+    let arc = s.input(number);
+    if is_constant(s.net, arc) {
+        return take_components(s.net, arc, b);
     }
     b
 }
 
 // The same of a solve.
-fn after_solve(net: &[u32], s: Shape, b: Slots, number: u32) -> Slots {
+fn after_solve(s: Shape<'_>, b: Slots, number: u32) -> Slots {
     if s.conjuncts <= number {
         return b;
     }
-    let conjunct = skip_conjuncts(net, s.conjuncts_at, number);
-    if get(net, conjunct) % 4 != 0 {
+    let conjunct = s.conjunct(number);
+    if get(s.net, conjunct) % 4 != 0 {
         return b;
     }
-    let left = plus(conjunct, 1);
-    let right = skip(net, left);
-    if is_new_variable(net, left, b) && is_bound(net, right, b) {
-        return take_lone(net, left, b);
+    let left = conjunct.wrapping_add(1);
+    let right = skip(s.net, left);
+    if b.is_new_variable(s.net, left) && is_bound(s.net, right, b) {
+        return take_lone(s.net, left, b);
     }
-    if is_new_variable(net, right, b) && is_bound(net, left, b) {
-        return take_lone(net, right, b);
+    if b.is_new_variable(s.net, right) && is_bound(s.net, left, b) {
+        return take_lone(s.net, right, b);
     }
     b
 }
 
 // The same of a range.
-fn after_range(s: Shape, b: Slots, number: u32) -> Slots {
+fn after_range(s: Shape<'_>, b: Slots, number: u32) -> Slots {
     if s.variables <= number {
         return b;
     }
@@ -98,10 +81,10 @@ fn after_range(s: Shape, b: Slots, number: u32) -> Slots {
 }
 
 // The bound variables after an element; as they were where it is unfit.
-pub fn after_element(net: &[u32], s: Shape, b: Slots, e: u32) -> Slots {
+pub fn after_element(s: Shape<'_>, b: Slots, e: u32) -> Slots {
     match e / 256 % 4 {
-        0 => after_match(net, s, b, e % 256),
-        1 => after_solve(net, s, b, e % 256),
+        0 => after_match(s, b, e % 256),
+        1 => after_solve(s, b, e % 256),
         _ => after_range(s, b, e % 256),
     }
 }
@@ -128,14 +111,7 @@ fn sort_of(way: u32, k: u32) -> u32 {
 
 // The first variable that is not bound.
 fn first_new(b: Slots) -> u32 {
-    let mut v: u32 = 0;
-    while v < 8 {
-        if slot(b, wide(v)) == 0 {
-            return v;
-        }
-        v += 1;
-    }
-    0
+    (0..8).find(|v| b.slot(*v).is_none()).unwrap_or(0)
 }
 
 // An element, and the state of the sequence.
@@ -146,7 +122,7 @@ struct Choice {
 }
 
 // An element of a sort, that names an input arc, a conjunct or a variable.
-fn element_of(s: Shape, sort: u32, seed: u64) -> u32 {
+fn element_of(s: Shape<'_>, sort: u32, seed: u64) -> u32 {
     match sort {
         0 => 0xA000_0000 + pick(seed, s.inputs) % 8,
         1 => 0xA000_0100 + pick(seed, s.conjuncts) % 8,
@@ -155,20 +131,18 @@ fn element_of(s: Shape, sort: u32, seed: u64) -> u32 {
 }
 
 // A fit element: one of sixteen drawn, or else a range.
-fn choose(net: &[u32], s: Shape, b: Slots, way: u32, seed: u64) -> Choice {
+fn choose(s: Shape<'_>, b: Slots, way: u32, seed: u64) -> Choice {
     let mut state = seed;
-    let mut left: u32 = 16;
-    while 0 < left {
+    for _ in 0..16 {
         let sort = next(state);
         state = next(sort);
-        let e = element_of(s, sort_of(way, pick(sort, 12)), state);
-        if bound(b) < bound(after_element(net, s, b, e)) {
+        let element = element_of(s, sort_of(way, pick(sort, 12)), state);
+        if b.bound() < after_element(s, b, element).bound() {
             return Choice {
-                element: e,
+                element,
                 seed: state,
             };
         }
-        left -= 1;
     }
     Choice {
         element: 0xA000_0200 + first_new(b) % 8,
@@ -176,38 +150,49 @@ fn choose(net: &[u32], s: Shape, b: Slots, way: u32, seed: u64) -> Choice {
     }
 }
 
-// A plan put after the words of a transition that has none; its number of elements goes into the TRANSITION word.
-pub fn draw_plan(net: &mut [u32], transition: u32, d: Draft) -> Draft {
-    let s = shape_of(net, transition);
-    let way = next(d.seed);
-    let mut b = unbound();
-    let mut drawn = Draft {
-        at: d.at,
-        seed: way,
-    };
-    let mut count: u32 = 0;
-    while count < 8 {
-        if bound(b) == s.variables {
-            count_elements(net, s, count);
-            return drawn;
-        }
-        let c = choose(net, s, b, pick(way, 10), drawn.seed);
-        b = after_element(net, s, b, c.element);
-        drawn = Draft {
-            at: put(net, drawn.at, c.element),
-            seed: c.seed,
-        };
-        count += 1;
-    }
-    count_elements(net, s, count);
-    drawn
+// A plan: its elements and their number, and the state of the sequence.
+#[derive(Clone, Copy)]
+struct Plan {
+    elements: [u32; 8],
+    count: usize,
+    seed: u64,
 }
 
-fn count_elements(net: &mut [u32], s: Shape, count: u32) {
-    let w = get(net, s.at);
-    put(
-        net,
-        s.at,
-        wrapping_add_u32(w % 0x1_0000, 0x4000_0000 + count % 16 * 0x1_0000),
-    );
+// A plan of a transition.
+fn plan_of(s: Shape<'_>, way: u64) -> Plan {
+    let mut b = Slots::UNBOUND;
+    let mut p = Plan {
+        elements: [0; 8],
+        count: 0,
+        seed: way,
+    };
+    for i in 0..8 {
+        if b.bound() == s.variables as usize {
+            break;
+        }
+        let c = choose(s, b, pick(way, 10), p.seed);
+        b = after_element(s, b, c.element);
+        p.elements[i] = c.element;
+        p.count = i + 1;
+        p.seed = c.seed;
+    }
+    p
+}
+
+// A plan put after the words of a transition that has none; its number of elements goes into the TRANSITION word.
+pub fn draw_plan(d: &mut Draft<'_>, transition: u32) {
+    let way = next(d.seed);
+    let s = shape_of(d.words, transition);
+    let at = s.at;
+    let p = plan_of(s, way);
+    for e in p.elements.iter().take(p.count) {
+        d.word(*e);
+    }
+    d.seed = p.seed;
+    count_elements(d.words, at, p.count);
+}
+
+fn count_elements(net: &mut [u32], at: usize, count: usize) {
+    let w = get(net, at) % 0x1_0000;
+    put(net, at, 0x4000_0000 + (count % 16) as u32 * 0x1_0000 + w);
 }

@@ -1,141 +1,177 @@
 // Damage to the net, the transition, the marking and the binding that the calls are handed.
-use conformance_plain::build::put;
-use conformance_plain::reading::less;
+use crate::words::Words;
+use semantics::refusal::Refusal;
 
-// What the calls are handed, and the refusal for the input that is due, 0 for none.
+#[derive(Clone, Copy)]
+pub enum NetDamage {
+    FirstWord,
+    Short,
+    Long,
+    // Variable 0 ranged twice.
+    RangedTwice,
+}
+
+#[derive(Clone, Copy)]
+pub enum MarkingDamage {
+    // A TOKEN with nothing after it.
+    LoneToken,
+    // A TOKEN of count 0.
+    CountZero,
+}
+
+#[derive(Clone, Copy)]
+pub enum BindingDamage {
+    // y beyond its range.
+    OutOfRange,
+    Short,
+    Long,
+}
+
+// Damage by the part that it is done to.
+#[derive(Clone, Copy)]
+pub enum Damage {
+    Net(NetDamage),
+    // No such transition.
+    Transition,
+    Marking(MarkingDamage),
+    Binding(BindingDamage),
+}
+
+impl Damage {
+    // The kind of damage by a number; none from 10 on.
+    pub fn of(k: u32) -> Option<Damage> {
+        match k {
+            0 => Some(Damage::Net(NetDamage::FirstWord)),
+            1 => Some(Damage::Net(NetDamage::Short)),
+            2 => Some(Damage::Net(NetDamage::Long)),
+            3 => Some(Damage::Net(NetDamage::RangedTwice)),
+            4 => Some(Damage::Transition),
+            5 => Some(Damage::Marking(MarkingDamage::LoneToken)),
+            6 => Some(Damage::Marking(MarkingDamage::CountZero)),
+            7 => Some(Damage::Binding(BindingDamage::OutOfRange)),
+            8 => Some(Damage::Binding(BindingDamage::Short)),
+            9 => Some(Damage::Binding(BindingDamage::Long)),
+            _ => None,
+        }
+    }
+
+    // Whether two kinds are done to the same part.
+    fn meets(self, other: Damage) -> bool {
+        matches!(
+            (self, other),
+            (Damage::Net(_), Damage::Net(_))
+                | (Damage::Transition, Damage::Transition)
+                | (Damage::Marking(_), Damage::Marking(_))
+                | (Damage::Binding(_), Damage::Binding(_))
+        )
+    }
+}
+
+// What the calls are handed, and the refusal for the input that is due.
 #[derive(Clone, Copy)]
 pub struct Input {
-    pub net: usize,
+    pub net: Words,
     pub transition: u32,
-    pub marking: usize,
-    pub binding: usize,
-    pub number: u32,
-    pub position: usize,
+    pub marking: Words,
+    pub binding: Words,
+    pub room: usize,
+    pub refused: Option<Refusal>,
 }
 
-// Nothing damaged: a net of so many words, its only transition, a marking that has no words yet, and a binding of two.
-pub fn whole(net: usize) -> Input {
-    Input {
-        net: net,
-        transition: 0,
-        marking: 0,
-        binding: 2,
-        number: 0,
-        position: 0,
-    }
-}
-
-// The lower of two refusals.
-fn told(z: Input, number: u32, position: usize) -> Input {
-    let mut d = z;
-    if z.number == 0 || number < z.number {
-        d.number = number;
-        d.position = position;
-    }
-    d
-}
-
-// Another first word, a word missing at the end, one too many there, or variable 0 ranged twice.
-pub fn damage_net(net: &mut [u32], z: Input, k: u32) -> Input {
-    let length = z.net;
-    let last = less(length);
-    let mut d = z;
-    match k {
-        0 => {
-            put(net, 0, 0x2000_0301);
-            told(d, 3, 0)
+impl Input {
+    // Nothing damaged; transition 0 is the net's only one.
+    pub fn new(net: Words, marking: Words, binding: Words, room: usize) -> Input {
+        Input {
+            net,
+            transition: 0,
+            marking,
+            binding,
+            room,
+            refused: None,
         }
-        1 => {
-            d.net = last;
-            told(d, 2, last)
-        }
-        2 => {
-            d.net = put(net, length, 0);
-            told(d, 4, length)
-        }
-        3 => {
-            put(net, last, 0xA000_0200);
-            told(d, 5, last)
-        }
-        _ => z,
     }
-}
 
-// No such transition.
-pub fn damage_transition(z: Input, k: u32) -> Input {
-    if k != 4 {
-        return z;
-    }
-    let mut d = z;
-    d.transition = 1;
-    told(d, 6, 0)
-}
-
-// A TOKEN with nothing after it, or a TOKEN of count 0.
-pub fn damage_marking(marking: &mut [u32], z: Input, k: u32) -> Input {
-    let length = z.marking;
-    let mut d = z;
-    match k {
-        5 => {
-            let end = put(marking, length, 0xB000_0001);
-            d.marking = end;
-            told(d, 7, end)
+    // Two kinds of damage, the first alone where both are done to one part.
+    pub fn damage(&mut self, first: Option<Damage>, second: Option<Damage>) {
+        if let Some(d) = first {
+            self.damage_part(d);
         }
-        6 => {
-            d.marking = put(marking, length, 0xB000_0000);
-            told(d, 7, length)
+        if let Some(d) = second
+            && !first.is_some_and(|f| f.meets(d))
+        {
+            self.damage_part(d);
         }
-        _ => z,
     }
-}
 
-// y beyond its range, y missing, or a word too many.
-pub fn damage_binding(binding: &mut [u32], z: Input, k: u32) -> Input {
-    let mut d = z;
-    match k {
-        7 => {
-            put(binding, 1, 0xC000_0004);
-            told(d, 8, 1)
+    // The refusal with the lower number is due.
+    fn damage_part(&mut self, d: Damage) {
+        let e = match d {
+            Damage::Net(n) => self.damage_net(n),
+            Damage::Transition => self.damage_transition(),
+            Damage::Marking(m) => self.damage_marking(m),
+            Damage::Binding(b) => self.damage_binding(b),
+        };
+        if self.refused.is_none_or(|r| e.number() < r.number()) {
+            self.refused = Some(e);
         }
-        8 => {
-            d.binding = 1;
-            told(d, 8, 1)
+    }
+
+    fn damage_net(&mut self, n: NetDamage) -> Refusal {
+        let length = self.net.length;
+        let last = length.saturating_sub(1);
+        match n {
+            NetDamage::FirstWord => {
+                self.net.set(0, 0x2000_0301);
+                Refusal::BadWord(0)
+            }
+            NetDamage::Short => {
+                self.net.length = last;
+                Refusal::NetEndsEarly(last)
+            }
+            NetDamage::Long => {
+                self.net.push(0);
+                Refusal::WordsLeft(length)
+            }
+            NetDamage::RangedTwice => {
+                self.net.set(last, 0xA000_0200);
+                Refusal::UnfitPlan(last)
+            }
         }
-        9 => {
-            d.binding = 3;
-            told(d, 8, 2)
+    }
+
+    fn damage_transition(&mut self) -> Refusal {
+        self.transition = 1;
+        Refusal::NoTransition(0)
+    }
+
+    fn damage_marking(&mut self, m: MarkingDamage) -> Refusal {
+        let length = self.marking.length;
+        match m {
+            MarkingDamage::LoneToken => {
+                self.marking.push(0xB000_0001);
+                Refusal::BadMarking(self.marking.length)
+            }
+            MarkingDamage::CountZero => {
+                self.marking.push(0xB000_0000);
+                Refusal::BadMarking(length)
+            }
         }
-        _ => z,
     }
-}
 
-// The parts that damage is done to.
-pub const NET: u32 = 0;
-
-pub const TRANSITION: u32 = 1;
-
-pub const MARKING: u32 = 2;
-
-pub const BINDING: u32 = 3;
-
-// The part that a kind of damage is done to; none from kind 10 on.
-fn part_of(k: u32) -> u32 {
-    match k {
-        0..=3 => NET,
-        4 => TRANSITION,
-        5..=6 => MARKING,
-        7..=9 => BINDING,
-        _ => 4,
+    fn damage_binding(&mut self, b: BindingDamage) -> Refusal {
+        match b {
+            BindingDamage::OutOfRange => {
+                self.binding.set(1, 0xC000_0004);
+                Refusal::BadBinding(1)
+            }
+            BindingDamage::Short => {
+                self.binding.length = 1;
+                Refusal::BadBinding(1)
+            }
+            BindingDamage::Long => {
+                self.binding.push(0xC000_0000);
+                Refusal::BadBinding(2)
+            }
+        }
     }
-}
-
-// Which of two kinds of damage is done to a part, the first where both would be; 10 for none.
-pub fn kind_for(part: u32, k: u32, l: u32) -> u32 {
-    if part_of(k) == part {
-        return k;
-    }
-    if part_of(l) == part {
-        return l;
-    }
-    10
 }

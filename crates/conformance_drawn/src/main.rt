@@ -12,6 +12,8 @@ mod nets;
 mod plain;
 // Drawn cases.
 mod sample;
+// Buffers of words.
+mod words;
 
 fn main() {
     io::write_all(

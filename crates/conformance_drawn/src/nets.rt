@@ -1,162 +1,76 @@
-// Nets drawn from the sequence, and what their arcs move and whether their guard holds under x and y.
-use crate::draw::{Drawn, coefficient, component, expression};
-use crate::plain::{Flow, Moved, add_flow, nothing_moved};
-use conformance_draw::draw::{next, pick};
-use conformance_plain::build::{put, write};
-use std::num::wrapping_add_u32;
+// Nets drawn from the sequence, and what their arcs move and whether their guard holds under a binding: places 0 with colours (-1) to (2), 1 with (0, -1) to
+// (1, 1), 2 with (3) and (4); one transition of variables x from -1 to 2 and y from 0 to 3.
+use crate::draw::{Binding, coefficient, component, draw_binding, expression};
+use crate::plain::{Flow, Moved};
+use crate::words::Words;
+use conformance_draw::draw::Draft;
+use conformance_plain::build::write;
+use conformance_plain::counts::cell_of;
+use conformance_plain::reading::{get, ranges_at};
 
-// The low value of the first component of a place.
-fn low_of(place: u32) -> u32 {
-    match place {
-        0 => 0xFFFF_FFFF,
-        1 => 0,
-        _ => 3,
+// The colour of an arc's place: one component, or two at place 1.
+fn colour(d: &mut Draft<'_>, b: Binding, place: u32) -> Option<[i32; 8]> {
+    let ranges = ranges_at(d.words, place);
+    let first = get(d.words, ranges);
+    let second = get(d.words, ranges.wrapping_add(1));
+    let v = component(d, b, first);
+    if place != 1 {
+        return Some([v?, 0, 0, 0, 0, 0, 0, 0]);
     }
+    let w = component(d, b, second);
+    Some([v?, w?, 0, 0, 0, 0, 0, 0])
 }
 
-// How many values it has.
-fn width_of(place: u32) -> u32 {
-    match place {
-        0 => 4,
-        _ => 2,
+// What an arc says, where all its expressions have values.
+fn arc(d: &mut Draft<'_>, b: Binding) -> Option<Flow> {
+    let place = d.draw(3);
+    d.word(0x5000_0000 + place % 4);
+    let n = coefficient(d, b);
+    let c = colour(d, b, place);
+    Some(Flow {
+        coefficient: n?,
+        cell: cell_of(d.words, place, &c?),
+    })
+}
+
+fn arcs(d: &mut Draft<'_>, b: Binding, count: u32) -> Moved {
+    let mut moved = Moved::NOTHING;
+    for _ in 0..count {
+        moved.add(arc(d, b));
     }
+    moved
 }
 
-fn first_component(words: &mut [u32], c: Drawn, x: u32, y: u32, place: u32) -> Drawn {
-    component(words, c.at, c.seed, x, y, low_of(place), width_of(place))
-}
-
-// The second component of place 1; the others have none.
-fn second_component(words: &mut [u32], a: Drawn, x: u32, y: u32, place: u32) -> Drawn {
-    if place == 1 {
-        return component(words, a.at, a.seed, x, y, 0xFFFF_FFFF, 3);
-    }
-    Drawn {
-        at: a.at,
-        seed: a.seed,
-        some: true,
-        value: 0,
-    }
-}
-
-// An arc that was drawn: what it says under x and y, the position after its words, and the state of the sequence.
-#[derive(Clone, Copy)]
-struct DrawnArc {
-    flow: Flow,
-    at: usize,
-    seed: u64,
-}
-
-fn arc(words: &mut [u32], start: usize, seed: u64, x: u32, y: u32) -> DrawnArc {
-    let s = next(seed);
-    let place = pick(s, 3);
-    let at = put(words, start, wrapping_add_u32(0x5000_0000, place));
-    let c = coefficient(words, at, s, x, y);
-    let a = first_component(words, c, x, y, place);
-    let b = second_component(words, a, x, y, place);
-    let flow = Flow {
-        place: place,
-        some: c.some && a.some && b.some,
-        coefficient: c.value,
-        first: a.value,
-        second: b.value,
-    };
-    DrawnArc {
-        flow: flow,
-        at: b.at,
-        seed: b.seed,
-    }
-}
-
-// Arcs that were drawn: what they move under x and y, the position after their words, and the state of the sequence.
-#[derive(Clone, Copy)]
-struct DrawnArcs {
-    moved: Moved,
-    at: usize,
-    seed: u64,
-}
-
-// One arc more.
-fn with_arc(a: DrawnArcs, more: DrawnArc) -> DrawnArcs {
-    let before = a.moved;
-    let flow = more.flow;
-    let moved = add_flow(before, flow);
-    DrawnArcs {
-        moved: moved,
-        at: more.at,
-        seed: more.seed,
-    }
-}
-
-fn arcs(words: &mut [u32], start: usize, seed: u64, count: u32, x: u32, y: u32) -> DrawnArcs {
-    let none = nothing_moved();
-    let mut drawn = DrawnArcs {
-        moved: none,
-        at: start,
-        seed: seed,
-    };
-    let mut left = count;
-    while 0 < left {
-        let more = arc(words, drawn.at, drawn.seed, x, y);
-        drawn = with_arc(drawn, more);
-        left -= 1;
-    }
-    drawn
-}
-
-// A guard that is being drawn: the position after its words, the state of the sequence, whether it holds so far.
-#[derive(Clone, Copy)]
-struct Guard {
-    at: usize,
-    seed: u64,
-    holds: bool,
-}
-
-// A signed number moved so that unsigned numbers are ordered as the signed ones.
-fn raised(v: u32) -> u32 {
-    wrapping_add_u32(v, 0x8000_0000)
-}
-
-fn related(relation: u32, a: u32, b: u32) -> bool {
+fn related(relation: u32, a: i32, b: i32) -> bool {
     match relation {
         0 => a == b,
         1 => a != b,
-        2 => raised(a) < raised(b),
-        _ => raised(a) <= raised(b),
+        2 => a < b,
+        _ => a <= b,
     }
 }
 
-fn conjunct(words: &mut [u32], d: Guard, x: u32, y: u32) -> Guard {
-    let s = next(d.seed);
-    let relation = pick(s, 4);
-    let at = put(words, d.at, wrapping_add_u32(0x6000_0000, relation));
-    let a = expression(words, at, s, x, y);
-    let b = expression(words, a.at, a.seed, x, y);
-    let holds = a.some && b.some && related(relation, a.value, b.value);
-    Guard {
-        at: b.at,
-        seed: b.seed,
-        holds: d.holds && holds,
-    }
+// Whether a conjunct holds.
+fn conjunct(d: &mut Draft<'_>, b: Binding) -> bool {
+    let relation = d.draw(4);
+    d.word(0x6000_0000 + relation % 4);
+    let left = expression(d, b);
+    let right = expression(d, b);
+    left.zip(right)
+        .is_some_and(|(l, r)| related(relation, l, r))
 }
 
-fn conjuncts(words: &mut [u32], count: u32, d: Guard, x: u32, y: u32) -> Guard {
-    let mut drawn = d;
-    let mut left = count;
-    while 0 < left {
-        drawn = conjunct(words, drawn, x, y);
-        left -= 1;
+// Whether all conjuncts hold.
+fn conjuncts(d: &mut Draft<'_>, b: Binding, count: u32) -> bool {
+    let mut holds = true;
+    for _ in 0..count {
+        holds &= conjunct(d, b);
     }
-    drawn
-}
-
-// The TRANSITION word of two variables, two elements and at most three inputs, three outputs and three conjuncts.
-fn transition_word(inputs: u32, outputs: u32, guards: u32) -> u32 {
-    0x4002_0002 + inputs % 4 * 16 + outputs % 4 * 256 + guards % 4 * 4096
+    holds
 }
 
 // No conjunct, or one or two.
-fn guards_of(k: u32) -> u32 {
+fn conjuncts_of(k: u32) -> u32 {
     match k {
         6 => 1,
         7 => 2,
@@ -169,80 +83,72 @@ fn guards_of(k: u32) -> u32 {
 struct Shape {
     inputs: u32,
     outputs: u32,
-    guards: u32,
-    seed: u64,
+    conjuncts: u32,
 }
 
-fn draw_shape(seed: u64) -> Shape {
-    let i = next(seed);
-    let o = next(i);
-    let g = next(o);
-    Shape {
-        inputs: pick(i, 4),
-        outputs: pick(o, 4),
-        guards: guards_of(pick(g, 8)),
-        seed: g,
+impl Shape {
+    fn draw(d: &mut Draft<'_>) -> Shape {
+        Shape {
+            inputs: d.draw(4),
+            outputs: d.draw(4),
+            conjuncts: conjuncts_of(d.draw(8)),
+        }
+    }
+
+    // The TRANSITION word of two variables and two elements.
+    fn word(self) -> u32 {
+        0x4002_0002 + self.inputs % 4 * 16 + self.outputs % 4 * 256 + self.conjuncts % 4 * 4096
     }
 }
 
-// The net's words before its arcs; answers the position after them.
-fn begin_net(words: &mut [u32], transition: u32) -> usize {
-    let places = write(
-        words,
-        0,
-        b"1:301 2:1 3:FFFC002 2:2 3:1 3:FFFC001 2:1 3:C004",
-    );
-    let head = put(words, places, transition);
-    write(words, head, b"3:FFFC002 3:3")
+fn text(d: &mut Draft<'_>, text: &[u8]) {
+    d.at = write(d.words, d.at, text);
 }
 
-// The net's words after its arcs.
-fn end_net(words: &mut [u32], start: Guard, guards: u32, x: u32, y: u32) -> Guard {
-    let guard = conjuncts(words, guards, start, x, y);
-    let end = write(words, guard.at, b"A:200 A:201");
-    Guard {
-        at: end,
-        seed: guard.seed,
-        holds: guard.holds,
-    }
+// The net's words before its arcs.
+fn begin(d: &mut Draft<'_>, s: Shape) {
+    text(d, b"1:301 2:1 3:FFFC002 2:2 3:1 3:FFFC001 2:1 3:C004");
+    d.word(s.word());
+    text(d, b"3:FFFC002 3:3");
 }
 
-// A net: its words and their number, what its inputs take and its outputs give and whether its guard holds under x and y, and the state of the sequence.
+// A net and a binding: what its inputs take and its outputs give, whether its guard holds, and the state of the sequence.
 #[derive(Clone, Copy)]
 pub struct Net {
-    pub words: [u32; 128],
-    pub length: usize,
+    pub words: Words,
+    pub binding: Binding,
     pub taken: Moved,
     pub given: Moved,
     pub holds: bool,
     pub seed: u64,
 }
 
-// A net of a shape.
-fn net_of(shape: Shape, x: u32, y: u32) -> Net {
-    let mut words = [0u32; 128];
-    let transition = transition_word(shape.inputs, shape.outputs, shape.guards);
-    let start = begin_net(&mut words, transition);
-    let ins = arcs(&mut words, start, shape.seed, shape.inputs, x, y);
-    let outs = arcs(&mut words, ins.at, ins.seed, shape.outputs, x, y);
-    let arced = Guard {
-        at: outs.at,
-        seed: outs.seed,
-        holds: true,
-    };
-    let guard = end_net(&mut words, arced, shape.guards, x, y);
-    let taken = ins.moved;
-    let given = outs.moved;
-    Net {
-        words: words,
-        length: guard.at,
-        taken: taken,
-        given: given,
-        holds: guard.holds,
-        seed: guard.seed,
+impl Net {
+    pub fn draw(seed: u64) -> Net {
+        let mut words = [0u32; 128];
+        let mut d = Draft {
+            words: &mut words,
+            at: 0,
+            seed,
+        };
+        let binding = draw_binding(&mut d);
+        let s = Shape::draw(&mut d);
+        begin(&mut d, s);
+        let taken = arcs(&mut d, binding, s.inputs);
+        let given = arcs(&mut d, binding, s.outputs);
+        let holds = conjuncts(&mut d, binding, s.conjuncts);
+        text(&mut d, b"A:200 A:201");
+        let end = d.end();
+        Net {
+            words: Words {
+                words,
+                length: end.at,
+            },
+            binding,
+            taken,
+            given,
+            holds,
+            seed: end.seed,
+        }
     }
-}
-
-pub fn draw_net(seed: u64, x: u32, y: u32) -> Net {
-    net_of(draw_shape(seed), x, y)
 }

@@ -2,102 +2,64 @@
 // front, its tries are counted, and those that go on are put at the end; one that goes on from the last element is a full binding, which stays in the queue.
 use conformance_plain::build::put;
 use conformance_plain::reading::{
-    Shape, components, get, in_range, kind, next_entry, place_of, plus, skip, skip_arcs,
-    skip_conjuncts, value_above, values, wide,
+    Shape, components, get, in_range, kind, next_entry, place_of, skip, value_above, values,
 };
-use conformance_plain::slots::{Slots, is_new_variable, slot, slots_at, unbound, with};
+use conformance_plain::slots::Slots;
 use conformance_plain::tuples::put_slots;
-use conformance_plain::value::{Value, evaluate};
-use std::num::{wrapping_add_u32, wrapping_add_u64};
+use conformance_plain::value::evaluate;
 
-// The queue's first and next free position, how many tries were counted, whether a match and a solve was in vain, and whether the queue was too short.
-#[derive(Clone, Copy)]
-pub struct Work {
-    pub head: usize,
-    pub tail: usize,
-    pub tries: u32,
-    pub match_lost: bool,
-    pub solve_lost: bool,
-    pub over: bool,
+// A variable that is not bound takes a value, which has to be in its range.
+fn bind(s: Shape<'_>, b: Slots, v: u32, w: u32) -> Option<Slots> {
+    in_range(s.range(v), w).then_some(b.with(v, 0xC000_0000 + w % 0x4000))
 }
 
-// Whether a try goes on, and with which partial binding.
-#[derive(Clone, Copy)]
-struct Tried {
-    on: bool,
-    binding: Slots,
-}
-
-fn lost(b: Slots) -> Tried {
-    Tried {
-        on: false,
-        binding: b,
-    }
-}
-
-// A variable that is not bound takes a value in its range.
-fn bind(net: &[u32], s: Shape, b: Slots, v: u32, w: u32) -> Tried {
-    if !in_range(get(net, plus(s.ranges, wide(v))), w) {
-        return lost(b);
-    }
-    Tried {
-        on: true,
-        binding: with(b, wide(v), 0xC000_0000 + w % 0x4000),
-    }
-}
-
-// One component of a colour against the first word of its expression.
-fn agree_one(net: &[u32], s: Shape, b: Slots, first: u32, w: u32) -> Tried {
-    if kind(first) == 7 {
-        return Tried {
-            on: first % 0x4000 == w % 0x4000,
-            binding: b,
-        };
-    }
-    if kind(first) == 8 {
-        let old = slot(b, wide(first % 8));
-        if old == 0 {
-            return bind(net, s, b, first % 8, w);
-        }
-        return Tried {
-            on: old % 0x4000 == w % 0x4000,
-            binding: b,
-        };
-    }
-    Tried {
-        on: true,
-        binding: b,
+// One component of a colour against the first word of its expression: the binding that the try goes on with.
+fn agree_one(s: Shape<'_>, b: Slots, first: u32, w: u32) -> Option<Slots> {
+    match kind(first) {
+        7 => (first % 0x4000 == w % 0x4000).then_some(b),
+        8 => match b.slot(first % 8) {
+            Some(old) => (old % 0x4000 == w % 0x4000).then_some(b),
+            None => bind(s, b, first % 8, w),
+        },
+        _ => Some(b),
     }
 }
 
 // The colour at a position of the marking against the component expressions at a position of the net.
 fn agree(
-    net: &[u32],
-    s: Shape,
+    s: Shape<'_>,
     marking: &[u32],
     colour: usize,
     first: usize,
     count: u32,
     b: Slots,
-) -> Tried {
-    let mut t = Tried {
-        on: true,
-        binding: b,
-    };
-    let mut value = colour;
+) -> Option<Slots> {
+    let mut c = b;
     let mut part = first;
-    let mut left = count;
-    while 0 < left {
-        let old = t.binding;
-        t = agree_one(net, s, old, get(net, part), get(marking, value));
-        if !t.on {
-            return t;
-        }
-        value = plus(value, 1);
-        part = skip(net, part);
-        left -= 1;
+    for i in 0..count as usize {
+        let w = get(marking, colour.wrapping_add(i));
+        c = agree_one(s, c, get(s.net, part), w)?;
+        part = skip(s.net, part);
     }
-    t
+    Some(c)
+}
+
+// A variable takes a value, which has to be one of 14 bits and in its range.
+fn solve_with(s: Shape<'_>, b: Slots, v: u32, x: i32) -> Option<Slots> {
+    if x < -0x2000 || 0x2000 <= x {
+        return None;
+    }
+    bind(s, b, v, x.cast_unsigned())
+}
+
+// The equation at a position, solved for its left side or for its right one.
+fn solve(s: Shape<'_>, b: Slots, conjunct: usize) -> Option<Slots> {
+    let left = conjunct.wrapping_add(1);
+    let right = skip(s.net, left);
+    if b.is_new_variable(s.net, left) {
+        return solve_with(s, b, get(s.net, left) % 8, evaluate(s.net, right, b)?);
+    }
+    solve_with(s, b, get(s.net, right) % 8, evaluate(s.net, left, b)?)
 }
 
 // A partial binding that arrives at an element, by its number; a full one after the last.
@@ -111,188 +73,137 @@ pub struct Arrival {
 pub fn arrival_at(queue: &[u32], at: usize) -> Arrival {
     Arrival {
         element: get(queue, at),
-        binding: slots_at(queue, plus(at, 1)),
+        binding: Slots::at(queue, at.wrapping_add(1)),
     }
 }
 
-// An arrival put at the end of the queue.
-fn put_arrival(queue: &mut [u32], w: Work, element: u32, b: Slots) -> Work {
-    let mut next = w;
-    let at = put(queue, w.tail, element);
-    let end = put_slots(queue, at, b, 8);
-    next.tail = end;
-    if end != plus(w.tail, 9) {
-        next.over = true;
-    }
-    next
+// The queue's next free position, how many tries were counted, and whether a match and a solve was in vain.
+#[derive(Clone, Copy)]
+pub struct Work {
+    pub tail: usize,
+    pub tries: u32,
+    pub match_lost: bool,
+    pub solve_lost: bool,
 }
 
-// A try of an arrival.
-fn go_on(queue: &mut [u32], w: Work, a: Arrival, t: Tried) -> Work {
-    let mut next = w;
-    next.tries = wrapping_add_u32(w.tries, 1);
-    if !t.on {
-        return next;
-    }
-    let b = t.binding;
-    put_arrival(queue, next, wrapping_add_u32(a.element, 1), b)
+// A count that is under way. What puts arrivals answers nothing where the queue is too short.
+#[derive(Drop)]
+struct Counter<'a> {
+    s: Shape<'a>,
+    marking: &'a [u32],
+    queue: &'a mut [u32],
+    work: Work,
 }
 
-// A try of a match of the arc at a position with the entry at a position.
-fn match_one(
-    net: &[u32],
-    s: Shape,
-    marking: &[u32],
-    queue: &mut [u32],
-    w: Work,
-    a: Arrival,
-    arc: usize,
-    entry: usize,
-) -> Work {
-    let n = components(net, place_of(net, arc));
-    let first = skip(net, plus(arc, 1));
-    let b = a.binding;
-    let t = agree(net, s, marking, plus(entry, 1), first, n, b);
-    let mut next = go_on(queue, w, a, t);
-    if !t.on {
-        next.match_lost = true;
-    }
-    next
-}
-
-// A match of the arc at a position.
-fn match_all(
-    net: &[u32],
-    s: Shape,
-    marking: &[u32],
-    queue: &mut [u32],
-    w: Work,
-    a: Arrival,
-    arc: usize,
-) -> Work {
-    let place = place_of(net, arc);
-    let words = wide(components(net, place) % 8 + 1);
-    let mut next = w;
-    let mut entry = next_entry(net, marking, 0, place);
-    let mut left = marking.len();
-    while 0 < left {
-        if marking.len() <= entry {
-            return next;
+impl Counter<'_> {
+    // An arrival put at the end of the queue.
+    fn put_arrival(&mut self, element: u32, b: Slots) -> Option<()> {
+        let at = put(self.queue, self.work.tail, element);
+        let end = put_slots(self.queue, at, b, 8);
+        if end != self.work.tail.wrapping_add(9) {
+            return None;
         }
-        next = match_one(net, s, marking, queue, next, a, arc, entry);
-        entry = next_entry(net, marking, plus(entry, words), place);
-        left -= 1;
+        self.work.tail = end;
+        Some(())
     }
-    next
-}
 
-// A range of a variable.
-fn range_all(net: &[u32], s: Shape, queue: &mut [u32], w: Work, a: Arrival, v: u32) -> Work {
-    let range = get(net, plus(s.ranges, wide(v)));
-    let count = values(range);
-    let b = a.binding;
-    let mut next = w;
-    let mut above: u32 = 0;
-    while above < count {
-        let t = Tried {
-            on: true,
-            binding: with(b, wide(v), value_above(range, above)),
-        };
-        next = go_on(queue, next, a, t);
-        above += 1;
-    }
-    next
-}
-
-// A variable takes the value of an expression, where it has one.
-fn solve_with(net: &[u32], s: Shape, b: Slots, v: u32, x: Value) -> Tried {
-    if !x.some {
-        return lost(b);
-    }
-    let number = wrapping_add_u64(x.number, 0x2000);
-    if number < 0x4000 {
-        return bind(net, s, b, v, wrapping_add_u32(number as u32, 0x2000));
-    }
-    lost(b)
-}
-
-// The equation at a position, solved for its left side or for its right one.
-fn solve(net: &[u32], s: Shape, b: Slots, conjunct: usize) -> Tried {
-    let left = plus(conjunct, 1);
-    let right = skip(net, left);
-    if is_new_variable(net, left, b) {
-        return solve_with(net, s, b, get(net, left) % 8, evaluate(net, right, b));
-    }
-    solve_with(net, s, b, get(net, right) % 8, evaluate(net, left, b))
-}
-
-fn solve_one(
-    net: &[u32],
-    s: Shape,
-    queue: &mut [u32],
-    w: Work,
-    a: Arrival,
-    conjunct: usize,
-) -> Work {
-    let b = a.binding;
-    let t = solve(net, s, b, conjunct);
-    let mut next = go_on(queue, w, a, t);
-    if !t.on {
-        next.solve_lost = true;
-    }
-    next
-}
-
-// The tries of an arrival that was taken from the queue's front.
-fn take_arrival(
-    net: &[u32],
-    s: Shape,
-    marking: &[u32],
-    queue: &mut [u32],
-    w: Work,
-    a: Arrival,
-) -> Work {
-    if s.elements <= a.element {
-        return w;
-    }
-    let e = get(net, plus(s.elements_at, wide(a.element)));
-    let number = e % 256;
-    match e / 256 % 4 {
-        0 => {
-            let arc = skip_arcs(net, s.inputs_at, number);
-            match_all(net, s, marking, queue, w, a, arc)
+    // A try of an arrival, with the binding that goes on.
+    fn go_on(&mut self, a: Arrival, t: Option<Slots>) -> Option<()> {
+        self.work.tries = self.work.tries.wrapping_add(1);
+        match t {
+            Some(b) => self.put_arrival(a.element.wrapping_add(1), b),
+            None => Some(()),
         }
-        1 => {
-            let conjunct = skip_conjuncts(net, s.conjuncts_at, number);
-            solve_one(net, s, queue, w, a, conjunct)
+    }
+
+    // A try of a match of the arc at a position with the entry at a position.
+    fn match_one(&mut self, a: Arrival, arc: usize, entry: usize) -> Option<()> {
+        let net = self.s.net;
+        let n = components(net, place_of(net, arc));
+        let first = skip(net, arc.wrapping_add(1));
+        let colour = entry.wrapping_add(1);
+        let t = agree(self.s, self.marking, colour, first, n, a.binding);
+        if t.is_none() {
+            self.work.match_lost = true;
         }
-        _ => range_all(net, s, queue, w, a, number),
+        self.go_on(a, t)
+    }
+
+    // A match of the arc at a position.
+    fn match_all(&mut self, a: Arrival, arc: usize) -> Option<()> {
+        let net = self.s.net;
+        let marking = self.marking;
+        let place = place_of(net, arc);
+        let words = components(net, place) as usize % 8 + 1;
+        let mut from = 0;
+        // An entry has a word at least.
+        for _ in marking {
+            let Some(entry) = next_entry(net, marking, from, place) else {
+                break;
+            };
+            self.match_one(a, arc, entry)?;
+            from = entry.wrapping_add(words);
+        }
+        Some(())
+    }
+
+    // A range of a variable.
+    fn range_all(&mut self, a: Arrival, v: u32) -> Option<()> {
+        let range = self.s.range(v);
+        for above in 0..values(range) {
+            let b = a.binding.with(v, value_above(range, above));
+            self.go_on(a, Some(b))?;
+        }
+        Some(())
+    }
+
+    fn solve_one(&mut self, a: Arrival, conjunct: usize) -> Option<()> {
+        let t = solve(self.s, a.binding, conjunct);
+        if t.is_none() {
+            self.work.solve_lost = true;
+        }
+        self.go_on(a, t)
+    }
+
+    // The tries of an arrival that was taken from the queue's front.
+    fn take_arrival(&mut self, a: Arrival) -> Option<()> {
+        if self.s.elements <= a.element {
+            return Some(());
+        }
+        let e = self.s.element(a.element);
+        let number = e % 256;
+        match e / 256 % 4 {
+            0 => self.match_all(a, self.s.input(number)),
+            1 => self.solve_one(a, self.s.conjunct(number)),
+            _ => self.range_all(a, number),
+        }
     }
 }
 
-fn no_work() -> Work {
-    Work {
-        head: 0,
-        tail: 0,
-        tries: 0,
-        match_lost: false,
-        solve_lost: false,
-        over: false,
-    }
-}
-
-// All tries of a transition's plan; the empty binding arrives once at the first element.
-pub fn count_tries(net: &[u32], s: Shape, marking: &[u32], queue: &mut [u32]) -> Work {
-    let mut w = put_arrival(queue, no_work(), 0, unbound());
-    let mut left = queue.len();
-    while 0 < left {
-        if w.over || w.head == w.tail {
-            return w;
+// All tries of a transition's plan, where they fit the queue; the empty binding arrives once at the first element.
+pub fn count_tries(s: Shape<'_>, marking: &[u32], queue: &mut [u32]) -> Option<Work> {
+    let words = queue.len();
+    let mut c = Counter {
+        s,
+        marking,
+        queue,
+        work: Work {
+            tail: 0,
+            tries: 0,
+            match_lost: false,
+            solve_lost: false,
+        },
+    };
+    c.put_arrival(0, Slots::UNBOUND)?;
+    // An arrival has a word at least.
+    let mut head = 0;
+    for _ in 0..words {
+        if head == c.work.tail {
+            break;
         }
-        let a = arrival_at(queue, w.head);
-        w.head = plus(w.head, 9);
-        w = take_arrival(net, s, marking, queue, w, a);
-        left -= 1;
+        let a = arrival_at(c.queue, head);
+        head = head.wrapping_add(9);
+        c.take_arrival(a)?;
     }
-    w
+    Some(c.work)
 }

@@ -3,7 +3,6 @@ use crate::flow::is_enabled;
 use conformance_plain::counts::Counts;
 use conformance_plain::reading::Shape;
 use conformance_plain::tuples::{put_slots, tuple_at, tuples};
-use std::num::wrapping_add_u32;
 
 // How many bindings are listed, and the number of their words.
 #[derive(Clone, Copy)]
@@ -12,25 +11,15 @@ pub struct Listing {
     pub words: usize,
 }
 
-fn list_one(net: &[u32], s: Shape, c: Counts, index: u64, list: &mut [u32], l: Listing) -> Listing {
-    let b = tuple_at(net, s.ranges, s.variables, index);
-    if !is_enabled(net, s, c, b) {
-        return l;
-    }
-    Listing {
-        count: wrapping_add_u32(l.count, 1),
-        words: put_slots(list, l.words, b, s.variables),
-    }
-}
-
 // The enabled bindings of a transition.
-pub fn list_all(net: &[u32], s: Shape, c: Counts, list: &mut [u32]) -> Listing {
-    let all = tuples(net, s.ranges, s.variables);
+pub fn list_all(s: Shape<'_>, c: &Counts, list: &mut [u32]) -> Listing {
     let mut l = Listing { count: 0, words: 0 };
-    let mut index: u64 = 0;
-    while index < all {
-        l = list_one(net, s, c, index, list, l);
-        index += 1;
+    for index in 0..tuples(s.net, s.ranges, s.variables) {
+        let b = tuple_at(s.net, s.ranges, s.variables, index);
+        if is_enabled(s, c, b) {
+            l.count = l.count.wrapping_add(1);
+            l.words = put_slots(list, l.words, b, s.variables);
+        }
     }
     l
 }

@@ -1,16 +1,16 @@
 // What a case has in it, counted by kind.
+use crate::compare::Input;
 use conformance_draw::plans::after_element;
 use conformance_lister::counting::{Arrival, Work, arrival_at};
 use conformance_lister::flow::is_enabled;
 use conformance_lister::lister::Listing;
+use conformance_plain::build::front;
 use conformance_plain::counts::{Counts, counts_of};
 use conformance_plain::reading::{
-    Shape, components, get, kind, next_entry, place_of, plus, raised, shape_of, skip, skip_arcs,
-    wide,
+    Shape, components, get, kind, next_entry, place_of, shape_of, signed, skip,
 };
-use conformance_plain::slots::{Slots, slot, unbound, with};
-use conformance_report::tally::{Tally, add, add_if};
-use std::num::wrapping_add_u32;
+use conformance_plain::slots::Slots;
+use conformance_report::tally::Tally;
 
 // Kinds, in the order in which they are printed. The first are transitions with their markings.
 pub const CASES: usize = 17;
@@ -71,8 +71,15 @@ struct Found {
     only: bool,
 }
 
-fn nothing() -> Found {
-    Found {
+fn also_bound(b: Slots, w: u32) -> Slots {
+    if kind(w) == 8 {
+        return b.with(w % 8, 0xC000_0000);
+    }
+    b
+}
+
+impl Found {
+    const NOTHING: Found = Found {
         repeated: false,
         constant: false,
         operator: false,
@@ -80,138 +87,88 @@ fn nothing() -> Found {
         zero: false,
         varying: false,
         only: true,
-    }
-}
+    };
 
-// A component of a matched arc, by its first word.
-fn component(f: Found, w: u32, b: Slots) -> Found {
-    let mut next = f;
-    match kind(w) {
-        7 => {
-            next.constant = true;
+    // A component of a matched arc, by its first word.
+    fn component(&mut self, w: u32, b: Slots) {
+        match kind(w) {
+            7 => self.constant = true,
+            8 => self.repeated |= b.slot(w % 8).is_some(),
+            _ => self.operator = true,
         }
-        8 => {
-            if slot(b, wide(w % 8)) != 0 {
-                next.repeated = true;
+    }
+
+    // The components of a matched arc.
+    fn matched(&mut self, net: &[u32], arc: usize, before: Slots) {
+        let mut b = before;
+        let mut at = skip(net, arc.wrapping_add(1));
+        for _ in 0..components(net, place_of(net, arc)) {
+            let w = get(net, at);
+            self.component(w, b);
+            b = also_bound(b, w);
+            at = skip(net, at);
+        }
+    }
+
+    fn element(&mut self, s: Shape<'_>, marking: &[u32], b: Slots, e: u32) {
+        let sort = e / 256 % 4;
+        self.only &= sort == 2;
+        if sort == 0 {
+            let arc = s.input(e % 256);
+            self.empty |= next_entry(s.net, marking, 0, place_of(s.net, arc)).is_none();
+            self.matched(s.net, arc, b);
+        }
+    }
+
+    // The elements of a plan.
+    fn plan(&mut self, s: Shape<'_>, marking: &[u32]) {
+        let mut b = Slots::UNBOUND;
+        for number in 0..s.elements {
+            let e = s.element(number);
+            self.element(s, marking, b, e);
+            b = after_element(s, b, e);
+        }
+    }
+
+    // The coefficients of the input arcs.
+    fn coefficients(&mut self, s: Shape<'_>) {
+        for number in 0..s.inputs {
+            let w = get(s.net, s.input(number).wrapping_add(1));
+            if kind(w) != 7 {
+                self.varying = true;
+            } else if w % 0x4000 == 0 {
+                self.zero = true;
             }
         }
-        _ => {
-            next.operator = true;
-        }
     }
-    next
-}
-
-fn also_bound(b: Slots, w: u32) -> Slots {
-    if kind(w) == 8 {
-        return with(b, wide(w % 8), 0xC000_0000);
-    }
-    b
-}
-
-// The components of a matched arc.
-fn matched(f: Found, net: &[u32], arc: usize, before: Slots) -> Found {
-    let mut next = f;
-    let mut b = before;
-    let mut at = skip(net, plus(arc, 1));
-    let mut left = components(net, place_of(net, arc));
-    while 0 < left {
-        let w = get(net, at);
-        next = component(next, w, b);
-        b = also_bound(b, w);
-        at = skip(net, at);
-        left -= 1;
-    }
-    next
-}
-
-fn element(f: Found, net: &[u32], s: Shape, marking: &[u32], b: Slots, e: u32) -> Found {
-    let mut next = f;
-    if e / 256 % 4 != 2 {
-        next.only = false;
-    }
-    if e / 256 % 4 != 0 {
-        return next;
-    }
-    let arc = skip_arcs(net, s.inputs_at, e % 256);
-    if next_entry(net, marking, 0, place_of(net, arc)) == marking.len() {
-        next.empty = true;
-    }
-    matched(next, net, arc, b)
-}
-
-// The elements of a plan.
-fn plan(f: Found, net: &[u32], s: Shape, marking: &[u32]) -> Found {
-    let mut next = f;
-    let mut b = unbound();
-    let mut at = s.elements_at;
-    let mut left = s.elements;
-    while 0 < left {
-        let e = get(net, at);
-        next = element(next, net, s, marking, b, e);
-        b = after_element(net, s, b, e);
-        at = plus(at, 1);
-        left -= 1;
-    }
-    next
-}
-
-fn coefficient(f: Found, w: u32) -> Found {
-    let mut next = f;
-    if kind(w) != 7 {
-        next.varying = true;
-        return next;
-    }
-    if w % 0x4000 == 0 {
-        next.zero = true;
-    }
-    next
-}
-
-// The coefficients of the input arcs.
-fn coefficients(f: Found, net: &[u32], s: Shape) -> Found {
-    let mut next = f;
-    let mut arc = s.inputs_at;
-    let mut left = s.inputs;
-    while 0 < left {
-        next = coefficient(next, get(net, plus(arc, 1)));
-        arc = skip_arcs(net, arc, 1);
-        left -= 1;
-    }
-    next
 }
 
 // Whether a listed binding has a negative value.
 fn has_negative(list: &[u32], n: usize) -> bool {
-    let mut i = 0;
-    while i < n {
-        if 0x2000 <= get(list, i) % 0x4000 {
-            return true;
-        }
-        i += 1;
-    }
-    false
+    front(list, n).iter().any(|w| signed(*w) < 0)
 }
 
-fn count_plan(t: Tally, s: Shape, first: u32, only: bool) -> Tally {
+fn count_plan(t: &mut Tally, s: Shape<'_>, only: bool) {
     if s.elements == 0 {
-        return add(t, NO_VARIABLES, 1);
+        t.add(NO_VARIABLES, 1);
+        return;
     }
-    let begun = match first / 256 % 4 {
-        0 => add(t, MATCH_FIRST, 1),
-        1 => add(t, SOLVE_FIRST, 1),
-        _ => add(t, RANGE_FIRST, 1),
+    let first = match s.element(0) / 256 % 4 {
+        0 => MATCH_FIRST,
+        1 => SOLVE_FIRST,
+        _ => RANGE_FIRST,
     };
-    add_if(begun, RANGE_ONLY, only)
+    t.add(first, 1);
+    t.add_if(RANGE_ONLY, only);
 }
 
-fn count_arcs(t: Tally, f: Found) -> Tally {
-    let a = add_if(t, REPEATED, f.repeated);
-    let b = add_if(a, CONSTANT, f.constant);
-    let c = add_if(b, OPERATOR, f.operator);
-    let d = add_if(c, EMPTY, f.empty);
-    let e = add_if(d, ZERO, f.zero);
-    add_if(e, VARYING, f.varying)
+fn count_arcs(t: &mut Tally, f: Found) {
+    t.add_if(REPEATED, f.repeated);
+    t.add_if(CONSTANT, f.constant);
+    t.add_if(OPERATOR, f.operator);
+    t.add_if(EMPTY, f.empty);
+    t.add_if(ZERO, f.zero);
+    t.add_if(VARYING, f.varying);
 }
 
 // The enabled bindings that the tries met so far: how many, whether they rose, and the last one.
@@ -219,101 +176,74 @@ fn count_arcs(t: Tally, f: Found) -> Tally {
 struct Met {
     count: u32,
     rising: bool,
-    last: Slots,
+    last: Option<Slots>,
 }
 
 // Whether a first row is before a second.
 fn before(a: Slots, b: Slots) -> bool {
-    let mut v = 0;
-    while v < 8 {
-        if raised(slot(a, v)) != raised(slot(b, v)) {
-            return raised(slot(a, v)) < raised(slot(b, v));
+    a.words.map(signed) < b.words.map(signed)
+}
+
+impl Met {
+    // One more enabled binding.
+    fn add(&mut self, b: Slots) {
+        self.count = self.count.wrapping_add(1);
+        self.rising &= self.last.is_none_or(|last| before(last, b));
+        self.last = Some(b);
+    }
+
+    // An arrival in the queue of the tries.
+    fn meet(&mut self, s: Shape<'_>, c: &Counts, a: Arrival) {
+        if s.elements <= a.element && is_enabled(s, c, a.binding) {
+            self.add(a.binding);
         }
-        v += 1;
     }
-    false
-}
-
-// One more enabled binding.
-fn with_binding(m: Met, b: Slots) -> Met {
-    let last = m.last;
-    let rises = m.count == 0 || before(last, b);
-    Met {
-        count: wrapping_add_u32(m.count, 1),
-        rising: m.rising && rises,
-        last: b,
-    }
-}
-
-// An arrival in the queue of the tries.
-fn meet(net: &[u32], s: Shape, c: Counts, m: Met, a: Arrival) -> Met {
-    let b = a.binding;
-    if a.element < s.elements {
-        return m;
-    }
-    if is_enabled(net, s, c, b) {
-        return with_binding(m, b);
-    }
-    m
 }
 
 // The enabled bindings among all arrivals.
-fn meet_all(net: &[u32], s: Shape, c: Counts, queue: &[u32], w: Work) -> Met {
+fn meet_all(s: Shape<'_>, c: &Counts, queue: &[u32], w: Work) -> Met {
     let mut m = Met {
         count: 0,
         rising: true,
-        last: unbound(),
+        last: None,
     };
-    let mut at = 0;
-    let mut left = w.tail;
-    while 0 < left {
-        if w.tail <= at {
-            return m;
-        }
-        m = meet(net, s, c, m, arrival_at(queue, at));
-        at = plus(at, 9);
-        left -= 1;
+    for at in (0..w.tail).step_by(9) {
+        m.meet(s, c, arrival_at(queue, at));
     }
     m
 }
 
-fn count_work(t: Tally, w: Work, m: Met, l: Listing) -> Tally {
-    let a = add_if(t, MATCH_LOST, w.match_lost);
-    let b = add_if(a, SOLVE_LOST, w.solve_lost);
-    let c = add_if(b, AGAIN, l.count < m.count);
-    let d = add_if(c, UNORDERED, !m.rising);
-    add(d, TRIES, w.tries)
+fn count_work(t: &mut Tally, w: Work, m: Met, l: Listing) {
+    t.add_if(MATCH_LOST, w.match_lost);
+    t.add_if(SOLVE_LOST, w.solve_lost);
+    t.add_if(AGAIN, l.count < m.count);
+    t.add_if(UNORDERED, !m.rising);
+    t.add(TRIES, w.tries);
 }
 
 // What stands in the plan and in the arcs of a transition.
-fn count_found(t: Tally, net: &[u32], s: Shape, marking: &[u32]) -> Tally {
-    let f = coefficients(plan(nothing(), net, s, marking), net, s);
-    let a = count_plan(add(t, CASES, 1), s, get(net, s.elements_at), f.only);
-    count_arcs(a, f)
+fn count_found(t: &mut Tally, s: Shape<'_>, marking: &[u32]) {
+    let mut f = Found::NOTHING;
+    f.plan(s, marking);
+    f.coefficients(s);
+    t.add(CASES, 1);
+    count_plan(t, s, f.only);
+    count_arcs(t, f);
 }
 
 // The list, and whether the net has another transition.
-fn count_list(t: Tally, net: &[u32], list: &[u32], l: Listing) -> Tally {
-    let a = add_if(t, NEGATIVE, has_negative(list, l.words));
-    let b = add_if(a, SOME, l.count != 0);
-    let c = add_if(b, BESIDE, 1 < get(net, 0) % 256);
-    add(c, LISTED, l.count)
+fn count_list(t: &mut Tally, net: &[u32], list: &[u32], l: Listing) {
+    t.add_if(NEGATIVE, has_negative(list, l.words));
+    t.add_if(SOME, l.count != 0);
+    t.add_if(BESIDE, 1 < get(net, 0) % 256);
+    t.add(LISTED, l.count);
 }
 
 // A transition of a net with a marking, its list and its tries.
-pub fn count_kinds(
-    t: Tally,
-    net: &[u32],
-    transition: u32,
-    marking: &[u32],
-    list: &[u32],
-    l: Listing,
-    queue: &[u32],
-    w: Work,
-) -> Tally {
-    let s = shape_of(net, transition);
-    let met = meet_all(net, s, counts_of(net, marking), queue, w);
-    let a = count_work(t, w, met, l);
-    let b = count_found(a, net, s, marking);
-    count_list(b, net, list, l)
+pub fn count_kinds(t: &mut Tally, i: Input<'_>, list: &[u32], l: Listing, queue: &[u32], w: Work) {
+    let s = shape_of(i.net, i.transition);
+    let met = meet_all(s, &counts_of(i.net, i.marking), queue, w);
+    count_work(t, w, met, l);
+    count_found(t, s, i.marking);
+    count_list(t, i.net, list, l);
 }

@@ -2,115 +2,107 @@
 // file stdin beside this folder, a line each, with bars between its fields: name; net; marking; transition, budget and room; refusal, position, N and W; the
 // words of the list. Each is held against menu; where the input is accepted, the lister and the count of tries are held against menu too.
 use crate::case_kinds::{CASES, OVER};
-use crate::compare::{Call, Due, compare};
+use crate::compare::{Call, Compared, Found, Input, Refused};
 use crate::drawn::compare_net;
 use conformance_lister::lister::list_all;
 use conformance_plain::build::{front, write};
 use conformance_plain::counts::{MOST_CELLS, counts_of, first_cell};
-use conformance_plain::reading::{Shape, place_count, shape_of, wide};
-use conformance_plain::text::{after, field, find, part};
+use conformance_plain::reading::{Shape, place_count, shape_of};
+use conformance_plain::text::{field, part};
 use conformance_plain::tuples::{MOST, tuples};
 use conformance_report::report::heading;
-use conformance_report::tally::{Tally, add, answers, end, lines, none};
+use semantics::Listed;
 
 // Too many bindings, or too many colours, for the lister.
-fn is_large(net: &[u32], s: Shape) -> bool {
-    MOST < tuples(net, s.ranges, s.variables) || MOST_CELLS < first_cell(net, place_count(net))
+fn is_large(s: Shape<'_>) -> bool {
+    MOST < tuples(s.net, s.ranges, s.variables)
+        || MOST_CELLS < first_cell(s.net, place_count(s.net))
 }
 
 // The lister and the count of tries on an accepted input.
-fn hold(t: Tally, net: &[u32], transition: u32, marking: &[u32]) -> Tally {
-    let mut list = [0u32; 16400];
-    let s = shape_of(net, transition);
-    if is_large(net, s) {
-        return add(t, OVER, 1);
+fn hold(t: &mut Compared, input: Input<'_>) {
+    let mut list = [0; 16400];
+    let s = shape_of(input.net, input.transition);
+    if is_large(s) {
+        t.tally.add(OVER, 1);
+        return;
     }
-    let l = list_all(net, s, counts_of(net, marking), &mut list);
-    compare_net(t, net, transition, marking, &list, l, false)
+    let l = list_all(s, &counts_of(input.net, input.marking), &mut list);
+    compare_net(t, input, &list, l, false);
 }
 
-// The numbers of a call.
-fn call_of(text: &[u8]) -> Call {
-    let mut c = [0u32; 3];
-    write(&mut c, 0, text);
+// A call with its numbers.
+fn call_of<'a>(net: &'a [u32], marking: &'a [u32], text: &[u8]) -> Call<'a> {
+    let mut numbers = [0; 3];
+    write(&mut numbers, 0, text);
+    let [transition, budget, room] = numbers;
     Call {
-        transition: c[0],
-        budget: c[1],
-        room: wide(c[2]),
+        input: Input {
+            net,
+            transition,
+            marking,
+        },
+        budget,
+        room: room as usize,
     }
 }
 
-// The numbers of an answer, with the number of words that are due.
-fn due_of(text: &[u8], words: usize) -> Due {
-    let mut a = [0u32; 4];
-    write(&mut a, 0, text);
-    Due {
-        number: a[0],
-        position: wide(a[1]),
-        count: a[2],
-        tries: a[3],
-        words: words,
+// The answer of these numbers, with the words that are due.
+fn due_of<'a>(text: &[u8], words: &'a [u32]) -> Result<Found<'a>, Refused> {
+    let mut numbers = [0; 4];
+    write(&mut numbers, 0, text);
+    let [number, position, bindings, tries] = numbers;
+    if number == 0 {
+        let listed = Listed { bindings, tries };
+        return Ok(Found { listed, words });
     }
+    Err(Refused {
+        number,
+        position: position as usize,
+    })
 }
 
 // Whether an answer is a refusal for the input.
-fn is_refused(number: u32) -> bool {
-    0 < number && number < 10
-}
-
-// A call against the answer that is due.
-fn run_call(t: Tally, net: &[u32], marking: &[u32], c: Call, d: Due, due: &[u32]) -> Tally {
-    let told = compare(t, net, marking, c, d, due);
-    if is_refused(d.number) {
-        return told;
-    }
-    hold(told, net, c.transition, marking)
+fn is_input_refused(d: Result<Found<'_>, Refused>) -> bool {
+    d.is_err_and(|r| r.number < 10)
 }
 
 // One case with its net and marking, from the other fields of its line.
-fn run(t: Tally, net: &[u32], marking: &[u32], line: &[u8]) -> Tally {
-    let mut due = [0u32; 64];
-    let end = write(&mut due, 0, field(line, 5));
-    let c = call_of(field(line, 3));
-    let d = due_of(field(line, 4), end);
-    run_call(t, net, marking, c, d, front(&due, end))
+fn hold_case(t: &mut Compared, net: &[u32], marking: &[u32], line: &[u8]) {
+    let mut words = [0; 64];
+    let end = write(&mut words, 0, field(line, 5));
+    let c = call_of(net, marking, field(line, 3));
+    let d = due_of(field(line, 4), front(&words, end));
+    t.compare(c, d);
+    if !is_input_refused(d) {
+        hold(t, c.input);
+    }
 }
 
 // One case from its line.
-fn run_line(t: Tally, line: &[u8]) -> Tally {
-    let mut net = [0u32; 128];
-    let mut marking = [0u32; 64];
+fn hold_line(t: &mut Compared, line: &[u8]) {
+    let mut net = [0; 128];
+    let mut marking = [0; 64];
     let n = write(&mut net, 0, field(line, 1));
     let m = write(&mut marking, 0, field(line, 2));
-    run(t, front(&net, n), front(&marking, m), line)
+    hold_case(t, front(&net, n), front(&marking, m), line);
 }
 
 // Each line of a text.
-fn run_lines(text: &[u8]) -> Tally {
-    let mut t = none();
-    let mut left = text.len();
-    let mut at = 0;
-    while 0 < left {
-        if text.len() <= at {
-            return t;
-        }
-        let end = find(text, at, b'\n');
-        t = run_line(t, part(text, at, end));
-        at = after(text, end, 1);
-        left -= 1;
+fn hold_lines(text: &[u8]) -> Compared {
+    let mut t = Compared::new();
+    for line in text.split_inclusive(|b| *b == b'\n') {
+        hold_line(&mut t, line.strip_suffix(b"\n").unwrap_or(line));
     }
     t
 }
 
-fn say(t: Tally) {
-    lines(t, b"accepted\ntoo large to list", CASES);
-    answers(t, b"found");
-    end(t);
-}
-
 pub fn all() {
-    let mut text = [0u8; 65536];
+    let mut text = [0; 65536];
     let n = io::read_full(0, &mut text);
     heading(b"Examples of document 01 and outside cases");
-    say(run_lines(part(&text, 0, n)));
+    let t = hold_lines(part(&text, 0, n)).tally;
+    t.lines(&["accepted", "too large to list"], CASES);
+    t.answers("found");
+    t.end();
 }

@@ -15,103 +15,86 @@
 //   s  split: the words of an outside case of split
 use crate::length::{around, expression, much_after};
 use crate::nets::{counted, damaged, headed, kinds, stray};
+use crate::output::Output;
 use crate::report::{check_line, split_line};
 use conformance_plain::build::{front, write};
-use conformance_plain::reading::wide;
+use std::fmt;
 
-fn replaced(name: &[u8], text: &[u8]) {
-    let mut a = [0u32; 2];
+fn replaced(out: &mut Output, name: &[u8], text: &[u8]) -> fmt::Result {
+    let mut a = [0; 2];
     write(&mut a, 0, text);
-    damaged(name, wide(a[0]), a[1], wide(a[0]), a[1], 34);
+    let [at, w] = a;
+    damaged(out, name, &[(at as usize, w)], 34)
 }
 
-fn doubly_replaced(name: &[u8], text: &[u8]) {
-    let mut a = [0u32; 5];
+fn doubly_replaced(out: &mut Output, name: &[u8], text: &[u8]) -> fmt::Result {
+    let mut a = [0; 5];
     write(&mut a, 0, text);
-    damaged(name, wide(a[0]), a[1], wide(a[2]), a[3], wide(a[4]));
+    let [at, w, other, v, n] = a;
+    damaged(
+        out,
+        name,
+        &[(at as usize, w), (other as usize, v)],
+        n as usize,
+    )
 }
 
-fn early_end(name: &[u8], text: &[u8]) {
-    let mut a = [0u32; 1];
+fn early_end(out: &mut Output, name: &[u8], text: &[u8]) -> fmt::Result {
+    let mut a = [0; 1];
     write(&mut a, 0, text);
-    damaged(name, 0, 0x1000_0201, 0, 0x1000_0201, wide(a[0]));
+    let [n] = a;
+    damaged(out, name, &[], n as usize)
 }
 
-fn each_kind(name: &[u8], text: &[u8]) {
-    let mut a = [0u32; 2];
+fn each_kind(out: &mut Output, name: &[u8], text: &[u8]) -> fmt::Result {
+    let mut a = [0; 2];
     write(&mut a, 0, text);
-    kinds(name, wide(a[0]), a[1]);
+    let [at, bits] = a;
+    kinds(out, name, at as usize, bits)
 }
 
-fn each_bit(name: &[u8], text: &[u8]) {
-    let mut a = [0u32; 4];
+fn each_bit(out: &mut Output, name: &[u8], text: &[u8]) -> fmt::Result {
+    let mut a = [0; 4];
     write(&mut a, 0, text);
-    stray(name, wide(a[0]), a[1], a[2], wide(a[3]));
+    let [at, w, lowest, bits] = a;
+    stray(out, name, at as usize, w, lowest, bits)
 }
 
-fn numbers(name: &[u8], text: &[u8]) {
-    let mut a = [0u32; 3];
+fn numbers(out: &mut Output, name: &[u8], text: &[u8]) -> fmt::Result {
+    let mut a = [0; 3];
     write(&mut a, 0, text);
-    counted(name, a[0], wide(a[1]), wide(a[2]));
+    let [net, places, transitions] = a;
+    counted(out, name, net, places, transitions as usize)
 }
 
-fn one_transition(name: &[u8], text: &[u8]) {
-    headed(name, b"1:201 2:1 3:9 2:2 3:9 3:9", text);
-}
-
-fn two_transitions(name: &[u8], text: &[u8]) {
-    headed(name, b"1:202 2:1 3:9 2:2 3:9 3:9", text);
-}
-
-fn check_case(name: &[u8], text: &[u8]) {
-    let mut words = [0u32; 128];
+fn check_case(out: &mut Output, name: &[u8], text: &[u8]) -> fmt::Result {
+    let mut words = [0; 128];
     let n = write(&mut words, 0, text);
-    check_line(name, front(&words, n));
+    check_line(out, name, front(&words, n))
 }
 
-fn split_case(name: &[u8], text: &[u8]) {
-    let mut words = [0u32; 128];
+fn split_case(out: &mut Output, name: &[u8], text: &[u8]) -> fmt::Result {
+    let mut words = [0; 128];
     let n = write(&mut words, 0, text);
-    split_line(name, front(&words, n));
-}
-
-// A case on the good net, damaged in a place or cut.
-fn run_damaged(form: u8, name: &[u8], text: &[u8]) {
-    match form {
-        b'r' => replaced(name, text),
-        b'd' => doubly_replaced(name, text),
-        b'e' => early_end(name, text),
-        b'k' => each_kind(name, text),
-        _ => each_bit(name, text),
-    }
-}
-
-// A case on a long net, or on the good net.
-fn run_long(form: u8, name: &[u8], text: &[u8]) {
-    match form {
-        b'l' => around(name, text),
-        b'x' => expression(name, text),
-        b'm' => much_after(name, text),
-        _ => run_damaged(form, name, text),
-    }
-}
-
-// A case on a short net of its own, or on another.
-fn run_short(form: u8, name: &[u8], text: &[u8]) {
-    match form {
-        b'n' => numbers(name, text),
-        b'w' => headed(name, b"", text),
-        b'o' => one_transition(name, text),
-        b't' => two_transitions(name, text),
-        _ => run_long(form, name, text),
-    }
+    split_line(out, name, front(&words, n))
 }
 
 // One case.
-pub fn run(form: u8, name: &[u8], text: &[u8]) {
+pub fn run(out: &mut Output, form: u8, name: &[u8], text: &[u8]) -> fmt::Result {
     match form {
-        b'c' => check_case(name, text),
-        b's' => split_case(name, text),
-        _ => run_short(form, name, text),
+        b'r' => replaced(out, name, text),
+        b'd' => doubly_replaced(out, name, text),
+        b'e' => early_end(out, name, text),
+        b'k' => each_kind(out, name, text),
+        b'n' => numbers(out, name, text),
+        b'w' => headed(out, name, b"", text),
+        b'o' => headed(out, name, b"1:201 2:1 3:9 2:2 3:9 3:9", text),
+        b't' => headed(out, name, b"1:202 2:1 3:9 2:2 3:9 3:9", text),
+        b'l' => around(out, name, text),
+        b'x' => expression(out, name, text),
+        b'm' => much_after(out, name, text),
+        b'c' => check_case(out, name, text),
+        b's' => split_case(out, name, text),
+        _ => each_bit(out, name, text),
     }
 }

@@ -6,6 +6,8 @@
 mod length;
 // Nets for the cases.
 mod nets;
+// Standard output as a writer.
+mod output;
 // Lines of the output.
 mod report;
 // Cases by their forms.
@@ -13,7 +15,9 @@ mod forms;
 // Tables of cases.
 mod table;
 
+use output::Output;
+
 fn main() {
     io::write_all(1, b"conformance of check and split with document 01\n");
-    table::all();
+    let _ = table::all(&mut Output);
 }

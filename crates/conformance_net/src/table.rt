@@ -1,52 +1,44 @@
 // Tables of cases, read from standard input. A line `== ` is a heading. A line `* ` and a form says what the words of the cases under it are; the
 // form's first letter tells it. Any other line is a case: its name, ` | ` and words, from which the form makes a net.
 use crate::forms::run;
+use crate::output::Output;
 use crate::report::heading;
 use conformance_plain::text::{after, byte_at, find, part};
+use std::fmt;
 
 // The case at a position: its name ends a space before the bar, its words begin a space after it.
-fn run_case(form: u8, text: &[u8], at: usize, end: usize) {
+fn run_case(out: &mut Output, form: u8, text: &[u8], at: usize, end: usize) -> fmt::Result {
     let bar = find(text, at, b'|');
-    if 0 < bar {
-        let name = part(text, at, bar - 1);
-        run(form, name, part(text, after(text, bar, 2), end));
+    if bar == 0 {
+        return Ok(());
     }
-}
-
-// The line at a position; answers the form of the cases under it.
-fn run_line(form: u8, text: &[u8], at: usize, end: usize) -> u8 {
-    match byte_at(text, at) {
-        b'=' => {
-            heading(part(text, after(text, at, 3), end));
-            form
-        }
-        b'*' => byte_at(text, after(text, at, 2)),
-        _ => {
-            run_case(form, text, at, end);
-            form
-        }
-    }
+    let name = part(text, at, bar - 1);
+    run(out, form, name, part(text, after(text, bar, 2), end))
 }
 
 // Each line of a text.
-fn lines(text: &[u8]) {
-    let mut left = text.len();
+fn lines(out: &mut Output, text: &[u8]) -> fmt::Result {
     let mut form = b'w';
     let mut at = 0;
-    while 0 < left {
+    // A line has a byte at least, so that no text has more lines than bytes.
+    for _ in text {
         if text.len() <= at {
-            return;
+            break;
         }
         let end = find(text, at, b'\n');
-        form = run_line(form, text, at, end);
+        match byte_at(text, at) {
+            b'=' => heading(out, part(text, after(text, at, 3), end))?,
+            b'*' => form = byte_at(text, after(text, at, 2)),
+            _ => run_case(out, form, text, at, end)?,
+        }
         at = after(text, end, 1);
-        left -= 1;
     }
+    Ok(())
 }
 
-// All of standard input.
-pub fn all() {
+// All of standard input, or as much as there is room for.
+pub fn all(out: &mut Output) -> fmt::Result {
     let mut text = [0u8; 65536];
     let n = io::read_full(0, &mut text);
-    lines(part(&text, 0, n));
+    lines(out, part(&text, 0, n))
 }

@@ -2,13 +2,12 @@
 use conformance_lister::counting::count_tries;
 use conformance_lister::flow::{give_outputs, take_inputs};
 use conformance_lister::lister::{Listing, list_all};
-use conformance_plain::build::{front, put};
-use conformance_plain::counts::{Counts, counts_of, put_marking, read_marking};
+use conformance_plain::build::front;
+use conformance_plain::counts::{Counts, put_marking, read_marking};
 use conformance_plain::reading::{Shape, get, kind, shape_of};
-use conformance_plain::slots::{Slots, slots_at};
-use conformance_plain::value::times;
+use conformance_plain::slots::Slots;
 use semantics::Outcome;
-use std::num::wrapping_add_usize;
+use semantics::refusal::Refusal;
 
 // What a run is handed beside net, picks and what its buffers hold: the budget, the marking's length, and the lengths of buffer, spare and menu.
 #[derive(Clone, Copy)]
@@ -20,9 +19,6 @@ pub struct Given {
     pub menu: usize,
 }
 
-// In the place of a refusal: the plan has more tries than this program counts.
-pub const TOO_LARGE: u32 = 99;
-
 fn is_pick(w: u32) -> bool {
     kind(w) == 13 && w / 0x40_0000 % 64 == 0
 }
@@ -32,248 +28,166 @@ pub fn transition_of(w: u32) -> u32 {
     w / 0x4000 % 256
 }
 
-// The first well-formed pick of a transition that the net does not have, or the number of picks.
-fn first_unknown(net: &[u32], picks: &[u32]) -> usize {
-    let mut i = 0;
-    while i < picks.len() {
-        let w = get(picks, i);
-        if is_pick(w) && get(net, 0) % 256 <= transition_of(w) {
-            return i;
-        }
-        i += 1;
-    }
-    picks.len()
+// The first well-formed pick of a transition that the net does not have.
+fn first_unknown(net: &[u32], picks: &[u32]) -> Option<usize> {
+    let count = get(net, 0) % 256;
+    picks
+        .iter()
+        .position(|w| is_pick(*w) && count <= transition_of(*w))
 }
 
-// The first pick that is not well formed, or the number of picks.
-fn first_malformed(picks: &[u32]) -> usize {
-    let mut i = 0;
-    while i < picks.len() {
-        if !is_pick(get(picks, i)) {
-            return i;
-        }
-        i += 1;
-    }
-    picks.len()
+// The first pick that is not well formed.
+fn first_malformed(picks: &[u32]) -> Option<usize> {
+    picks.iter().position(|w| !is_pick(*w))
 }
 
 // The answer to an input that is refused.
-pub fn refused_input(number: u32, position: usize) -> Outcome {
+pub fn refused_input(r: Refusal) -> Outcome {
     Outcome {
         done: 0,
-        refusal: number,
-        position: position,
+        stopped: Some(r),
         length: 0,
     }
 }
 
-// The refusal of picks and marking, with the number 0 for none.
-fn judge_input(net: &[u32], g: Given, buffer: &[u32], picks: &[u32]) -> Outcome {
-    let unknown = first_unknown(net, picks);
-    if unknown < picks.len() {
-        return refused_input(6, unknown);
+// The counts of the marking, where picks and marking are accepted.
+fn judge_input(net: &[u32], g: Given, buffer: &[u32], picks: &[u32]) -> Result<Counts, Refusal> {
+    if let Some(unknown) = first_unknown(net, picks) {
+        return Err(Refusal::NoTransition(unknown));
     }
     if g.buffer < g.m {
-        return refused_input(7, g.buffer);
+        return Err(Refusal::BadMarking(g.buffer));
     }
-    let marked = read_marking(net, front(buffer, g.m));
-    if marked.refused {
-        return refused_input(7, marked.at);
+    let counts = read_marking(net, front(buffer, g.m)).map_err(Refusal::BadMarking)?;
+    if let Some(malformed) = first_malformed(picks) {
+        return Err(Refusal::BadPick(malformed));
     }
-    let malformed = first_malformed(picks);
-    if malformed < picks.len() {
-        return refused_input(9, malformed);
-    }
-    refused_input(0, 0)
+    Ok(counts)
 }
 
-// The run so far: picks done, what stopped it or 0, and the counts.
+// A run that ended: picks done, what stopped it, and the counts.
 #[derive(Clone, Copy)]
 struct State {
     done: usize,
-    refusal: u32,
+    stopped: Option<Refusal>,
     counts: Counts,
 }
 
-fn stopped(st: State, number: u32) -> State {
-    let counts = st.counts;
-    State {
-        done: st.done,
-        refusal: number,
-        counts: counts,
+// The counts after a step, where none is over 16,383 and their marking has room in buffer and spare.
+fn judge_step(net: &[u32], g: Given, after: Counts) -> Result<Counts, Refusal> {
+    if after.iter().any(|count| 16383 < *count) {
+        return Err(Refusal::OverCount);
     }
-}
-
-// Whether a count is over 16,383.
-fn is_over(cells: &[u32]) -> bool {
-    let mut i = 0;
-    while i < cells.len() {
-        if 16383 < get(cells, i) {
-            return true;
-        }
-        i += 1;
-    }
-    false
-}
-
-// The shorter of buffer and spare.
-fn room(g: Given) -> usize {
-    if g.buffer < g.spare {
-        return g.buffer;
-    }
-    g.spare
-}
-
-// What stops a run at the counts after a step, or 0.
-fn judge_step(net: &[u32], g: Given, after: Counts) -> u32 {
     let mut words = [0u32; 1600];
-    let cells = after.cells;
-    if !after.good {
-        return 14;
+    let length = put_marking(&mut words, net, &after);
+    if g.buffer.min(g.spare) < length || 16384 < length {
+        return Err(Refusal::OverRoom);
     }
-    if is_over(&cells) {
-        return 15;
-    }
-    let length = put_marking(&mut words, net, &cells);
-    if room(g) < length || 16384 < length {
-        return 16;
-    }
-    0
+    Ok(after)
 }
 
 // The step of an enabled binding.
-fn step(net: &[u32], g: Given, st: State, s: Shape, b: Slots) -> State {
-    let before = st.counts;
-    let after = give_outputs(net, s, take_inputs(net, s, before, b), b);
-    let number = judge_step(net, g, after);
-    if number != 0 {
-        return stopped(st, number);
-    }
-    State {
-        done: wrapping_add_usize(st.done, 1),
-        refusal: 0,
-        counts: after,
-    }
+fn step(g: Given, s: Shape<'_>, before: &Counts, b: Slots) -> Result<Counts, Refusal> {
+    let after = take_inputs(s, before, b)
+        .and_then(|left| give_outputs(s, &left, b))
+        .ok_or(Refusal::BadOutput)?;
+    judge_step(s.net, g, after)
 }
 
-// The tries of a transition's plan under counts, or one more than any budget.
-pub fn tries_of(net: &[u32], s: Shape, c: Counts) -> u64 {
+// The tries of a transition's plan under counts, where they are not too many to count.
+pub fn tries_of(s: Shape<'_>, c: &Counts) -> Option<u32> {
     let mut words = [0u32; 1600];
     let mut queue = [0u32; 73728];
-    let cells = c.cells;
-    let length = put_marking(&mut words, net, &cells);
-    let work = count_tries(net, s, front(&words, length), &mut queue);
-    if work.over {
-        return 0x1_0000_0000;
-    }
-    work.tries as u64
+    let length = put_marking(&mut words, s.net, c);
+    let work = count_tries(s, front(&words, length), &mut queue)?;
+    Some(work.tries)
 }
 
 // The binding at an index of a list.
-fn binding_at(list: &[u32], s: Shape, index: u32) -> Slots {
-    slots_at(
-        list,
-        (times(index as u64, s.variables as u64) % 0x1_0000) as usize,
-    )
+fn binding_at(list: &[u32], s: Shape<'_>, index: u32) -> Slots {
+    Slots::at(list, (index as usize).wrapping_mul(s.variables as usize))
 }
 
-// What stops a run at the tries of a plan, or 0.
-fn judge_tries(g: Given, tries: u64) -> u32 {
-    if 0xFFFF_FFFF < tries {
-        return TOO_LARGE;
-    }
-    if (g.budget as u64) < tries {
-        return 10;
-    }
-    0
-}
-
-// What stops a run at a list, of which the binding at an index is picked, or 0.
-fn judge_list(g: Given, l: Listing, index: u32) -> u32 {
+// Whether a list has room, and a binding at the index that is picked.
+fn judge_list(g: Given, l: Listing, index: u32) -> Result<(), Refusal> {
     if 16383 < l.count || g.menu < l.words {
-        return 11;
+        return Err(Refusal::OverMenu);
     }
     if l.count <= index {
-        return 12;
+        return Err(Refusal::NoSuchIndex);
     }
-    0
+    Ok(())
 }
 
-// A pick whose tries are within the budget.
-fn take_binding(net: &[u32], g: Given, st: State, s: Shape, index: u32) -> State {
+// A pick of a transition, by the tries of its plan and the index of a binding.
+fn take_binding(
+    g: Given,
+    s: Shape<'_>,
+    before: &Counts,
+    tries: u32,
+    index: u32,
+) -> Result<Counts, Refusal> {
+    if g.budget < tries {
+        return Err(Refusal::OverBudget);
+    }
     let mut list = [0u32; 2400];
-    let before = st.counts;
-    let l = list_all(net, s, before, &mut list);
-    let number = judge_list(g, l, index);
-    if number != 0 {
-        return stopped(st, number);
-    }
-    step(net, g, st, s, binding_at(&list, s, index))
+    let l = list_all(s, before, &mut list);
+    judge_list(g, l, index)?;
+    step(g, s, before, binding_at(&list, s, index))
 }
 
-// One pick.
-fn take_pick(net: &[u32], g: Given, st: State, w: u32) -> State {
+// One pick: the counts after it or why it stops the run, where the tries of its plan are not too many to count.
+fn take_pick(net: &[u32], g: Given, before: &Counts, w: u32) -> Option<Result<Counts, Refusal>> {
     let s = shape_of(net, transition_of(w));
-    let before = st.counts;
-    let number = judge_tries(g, tries_of(net, s, before));
-    if number != 0 {
-        return stopped(st, number);
-    }
-    take_binding(net, g, st, s, w % 0x4000)
+    let tries = tries_of(s, before)?;
+    Some(take_binding(g, s, before, tries, w % 0x4000))
 }
 
 // The picks in turn, up to the first one that stops the run.
-fn take_picks(net: &[u32], g: Given, c: Counts, picks: &[u32]) -> State {
-    let mut st = State {
-        done: 0,
-        refusal: 0,
-        counts: c,
-    };
-    let mut i = 0;
-    while i < picks.len() {
-        st = take_pick(net, g, st, get(picks, i));
-        if st.refusal != 0 {
-            return st;
+fn take_picks(net: &[u32], g: Given, before: Counts, picks: &[u32]) -> Option<State> {
+    let mut counts = before;
+    for (done, w) in picks.iter().enumerate() {
+        match take_pick(net, g, &counts, *w)? {
+            Ok(after) => counts = after,
+            Err(r) => {
+                return Some(State {
+                    done,
+                    stopped: Some(r),
+                    counts,
+                });
+            }
         }
-        i += 1;
     }
-    st
-}
-
-// Zeros in the first words of a buffer.
-fn clear(buffer: &mut [u32], n: usize) {
-    let mut i = 0;
-    while i < n {
-        put(buffer, i, 0);
-        i += 1;
-    }
+    Some(State {
+        done: picks.len(),
+        stopped: None,
+        counts,
+    })
 }
 
 // Whether a run that ends so clears spare and menu.
-pub fn clears(refusal: u32) -> bool {
-    refusal == 0 || 10 <= refusal
+pub fn clears(stopped: Option<Refusal>) -> bool {
+    stopped.is_none_or(|r| 10 <= r.number())
 }
 
 // The answer of a run that ended so, which leaves its marking in the buffer and zeros after it.
 fn leave(net: &[u32], g: Given, st: State, buffer: &mut [u32]) -> Outcome {
-    let counts = st.counts;
-    let cells = counts.cells;
-    clear(buffer, g.buffer);
-    let length = put_marking(buffer, net, &cells);
+    let room = g.buffer.min(buffer.len());
+    buffer[..room].fill(0);
     Outcome {
         done: st.done,
-        refusal: st.refusal,
-        position: 0,
-        length: length,
+        stopped: st.stopped,
+        length: put_marking(buffer, net, &st.counts),
     }
 }
 
-// The answer to an accepted net; the buffer, as it was before the run, is left as it is after it.
-pub fn run_plainly(net: &[u32], g: Given, buffer: &mut [u32], picks: &[u32]) -> Outcome {
-    let judged = judge_input(net, g, buffer, picks);
-    if judged.refusal != 0 {
-        return judged;
+// The answer to an accepted net, unless a plan has more tries than this program counts; the buffer, as it was before the run, is left as it is after it.
+pub fn run_plainly(net: &[u32], g: Given, buffer: &mut [u32], picks: &[u32]) -> Option<Outcome> {
+    match judge_input(net, g, buffer, picks) {
+        Ok(counts) => {
+            let st = take_picks(net, g, counts, picks)?;
+            Some(leave(net, g, st, buffer))
+        }
+        Err(r) => Some(refused_input(r)),
     }
-    let st = take_picks(net, g, counts_of(net, front(buffer, g.m)), picks);
-    leave(net, g, st, buffer)
 }

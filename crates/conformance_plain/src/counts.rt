@@ -1,79 +1,52 @@
 // A marking as an array of counts: a cell for each colour of each place, place by place, in the order of markings, so that marking words are the cells above
 // 0 in turn. A marking is read into counts as document 01 says, and counts are written as a marking.
 use crate::build::put;
-use crate::reading::{components, get, in_range, kind, place_at, place_count, plus, values, wide};
+use crate::reading::{components, get, in_range, kind, place_count, ranges_at, signed, values};
 use crate::tuples::{put_slots, tuple_at, tuples};
-use crate::value::{signed, times};
-use std::num::{wrapping_add_u64, wrapping_sub_u64};
 
 // The most cells that a net may need.
 pub const MOST_CELLS: usize = 256;
 
-// The counts, and whether all that was done to them could be done.
-#[derive(Clone, Copy)]
-pub struct Counts {
-    pub good: bool,
-    pub cells: [u32; 256],
-}
+pub type Counts = [u32; MOST_CELLS];
+
+// The values of a colour's components, as many as its place has.
+pub type Colour = [i32; 8];
 
 // The number of colours of a place.
 pub fn colours(net: &[u32], place: u32) -> u64 {
-    tuples(net, plus(place_at(net, place), 1), components(net, place))
+    tuples(net, ranges_at(net, place), components(net, place))
 }
 
 // The cell of a place's first colour; for the number of places, how many cells a net needs.
 pub fn first_cell(net: &[u32], place: u32) -> usize {
-    let mut cell = 0;
-    let mut p: u32 = 0;
-    while p < place {
-        cell = plus(cell, (colours(net, p) % 0x1_0000) as usize);
-        p += 1;
+    let mut cell: usize = 0;
+    for p in 0..place {
+        cell = cell.wrapping_add((colours(net, p) % 0x1_0000) as usize);
     }
     cell
 }
 
-// A colour as far as its components are read: its index among those of its place, whether each component has a value, and whether each is in its range.
-#[derive(Clone, Copy)]
-pub struct Colour {
-    pub some: bool,
-    pub inside: bool,
-    pub index: u64,
+// How far a value is above a range's low one, where the range has it.
+fn above(range: u32, value: i32) -> Option<u32> {
+    let above = u32::try_from(value.checked_sub(signed(range / 0x4000))?).ok()?;
+    (above < values(range)).then_some(above)
 }
 
-pub fn no_components() -> Colour {
-    Colour {
-        some: true,
-        inside: true,
-        index: 0,
+// The cell of a colour, where its place has it.
+pub fn cell_of(net: &[u32], place: u32, colour: &Colour) -> Option<usize> {
+    let ranges = ranges_at(net, place);
+    let mut index: u64 = 0;
+    for (i, value) in colour
+        .iter()
+        .enumerate()
+        .take(components(net, place) as usize)
+    {
+        let range = get(net, ranges.wrapping_add(i));
+        index = index
+            .wrapping_mul(values(range) as u64)
+            .wrapping_add(above(range, *value)? as u64);
     }
-}
-
-// One component more, of a RANGE.
-pub fn with_component(c: Colour, range: u32, some: bool, number: u64) -> Colour {
-    let above = wrapping_sub_u64(number, signed(range / 0x4000));
-    let count = values(range) as u64;
-    Colour {
-        some: c.some && some,
-        inside: c.inside && above < count,
-        index: wrapping_add_u64(times(c.index, count), above),
-    }
-}
-
-// The cell of a colour, or a number that is no cell where the place does not have it.
-pub fn cell_of(net: &[u32], place: u32, c: Colour) -> usize {
-    if !c.inside {
-        return MOST_CELLS;
-    }
-    plus(first_cell(net, place), (c.index % 0x1_0000) as usize)
-}
-
-// A marking that is being read: the position reached, whether the word there can't be taken, the least cell of the next entry, and the counts so far.
-#[derive(Clone, Copy)]
-pub struct Marked {
-    pub at: usize,
-    pub refused: bool,
-    pub least: usize,
-    pub cells: [u32; 256],
+    Some(first_cell(net, place).wrapping_add((index % 0x1_0000) as usize))
 }
 
 fn is_token(net: &[u32], w: u32) -> bool {
@@ -87,107 +60,81 @@ fn is_value(range: u32, w: u32) -> bool {
     kind(w) == 12 && w / 0x4000 % 0x4000 == 0 && in_range(range, w)
 }
 
-// The position of the first word that is no component of a place's colours, or the position after them.
-fn after_values(net: &[u32], words: &[u32], start: usize, place: u32) -> usize {
-    let mut at = start;
-    let mut range = plus(place_at(net, place), 1);
-    let mut left = components(net, place);
-    while 0 < left {
-        if !is_value(get(net, range), get(words, at)) {
-            return at;
+// The colour of a place whose VALUE words begin at a position, or the position of the first word that is none of them.
+fn read_colour(net: &[u32], words: &[u32], start: usize, place: u32) -> Result<Colour, usize> {
+    let ranges = ranges_at(net, place);
+    let mut colour = [0; 8];
+    for (i, value) in colour
+        .iter_mut()
+        .enumerate()
+        .take(components(net, place) as usize)
+    {
+        let at = start.wrapping_add(i);
+        let w = get(words, at);
+        if !is_value(get(net, ranges.wrapping_add(i)), w) {
+            return Err(at);
         }
-        at = plus(at, 1);
-        range = plus(range, 1);
-        left -= 1;
+        *value = signed(w);
     }
-    at
+    Ok(colour)
 }
 
-// The colour whose VALUE words begin at a position.
-fn colour_at(net: &[u32], words: &[u32], start: usize, place: u32) -> Colour {
-    let mut c = no_components();
-    let mut at = start;
-    let mut range = plus(place_at(net, place), 1);
-    let mut left = components(net, place);
-    while 0 < left {
-        c = with_component(c, get(net, range), true, signed(get(words, at)));
-        at = plus(at, 1);
-        range = plus(range, 1);
-        left -= 1;
-    }
-    c
+// An entry of a marking: the position after it, its colour's cell, and its count.
+#[derive(Clone, Copy)]
+struct Entry {
+    end: usize,
+    cell: usize,
+    count: u32,
 }
 
-fn refused_at(m: Marked, at: usize) -> Marked {
-    let cells = m.cells;
-    Marked {
-        at: at,
-        refused: true,
-        least: m.least,
-        cells: cells,
-    }
-}
-
-fn with_count(m: Marked, end: usize, cell: usize, count: u32) -> Marked {
-    let mut cells = m.cells;
-    if cell < 256 {
-        cells[cell] = count;
-    }
-    Marked {
-        at: end,
-        refused: false,
-        least: plus(cell, 1),
-        cells: cells,
-    }
-}
-
-// One entry: its words first, then its order.
-fn read_entry(net: &[u32], words: &[u32], m: Marked) -> Marked {
-    let at = m.at;
+// The entry at a position, whose cell is not below the least: its words first, then its order. Or the position of the word that can't be taken.
+fn read_entry(net: &[u32], words: &[u32], at: usize, least: usize) -> Result<Entry, usize> {
     let w = get(words, at);
     if !is_token(net, w) {
-        return refused_at(m, at);
+        return Err(at);
     }
     let place = w / 0x4000 % 256;
-    let first = plus(at, 1);
-    let end = after_values(net, words, first, place);
-    if end != plus(first, wide(components(net, place))) {
-        return refused_at(m, end);
-    }
-    let cell = cell_of(net, place, colour_at(net, words, first, place));
-    if cell < m.least {
-        return refused_at(m, at);
-    }
-    with_count(m, end, cell, w % 0x4000)
+    let first = at.wrapping_add(1);
+    let colour = read_colour(net, words, first, place)?;
+    let cell = cell_of(net, place, &colour)
+        .filter(|cell| least <= *cell)
+        .ok_or(at)?;
+    Ok(Entry {
+        end: first.wrapping_add(components(net, place) as usize),
+        cell,
+        count: w % 0x4000,
+    })
 }
 
-// A marking, up to its first word that can't be taken.
-pub fn read_marking(net: &[u32], words: &[u32]) -> Marked {
-    let mut m = Marked {
-        at: 0,
-        refused: false,
-        least: 0,
-        cells: [0; 256],
-    };
-    let mut left = words.len();
-    while 0 < left {
-        if m.refused || words.len() <= m.at {
-            return m;
+// Counts the entries of a marking up to its first word that can't be taken, whose position is the error.
+fn count_entries(net: &[u32], words: &[u32], cells: &mut Counts) -> Result<(), usize> {
+    let mut least = 0;
+    let mut at = 0;
+    // An entry has a word at least.
+    for _ in words {
+        if words.len() <= at {
+            break;
         }
-        m = read_entry(net, words, m);
-        left -= 1;
+        let e = read_entry(net, words, at, least)?;
+        put(cells, e.cell, e.count);
+        least = e.cell.wrapping_add(1);
+        at = e.end;
     }
-    m
+    Ok(())
 }
 
-// The counts of a marking that is accepted.
+// The counts of a marking, or the position of its first word that can't be taken.
+pub fn read_marking(net: &[u32], words: &[u32]) -> Result<Counts, usize> {
+    let mut cells = [0; MOST_CELLS];
+    count_entries(net, words, &mut cells)?;
+    Ok(cells)
+}
+
+// The counts of a marking, as far as it can be read.
 pub fn counts_of(net: &[u32], words: &[u32]) -> Counts {
-    let m = read_marking(net, words);
-    let cells = m.cells;
-    Counts {
-        good: true,
-        cells: cells,
-    }
+    let mut cells = [0; MOST_CELLS];
+    let _ = count_entries(net, words, &mut cells);
+    cells
 }
 
 // The entry of a place's colour by its index, nothing for the count 0.
@@ -203,13 +150,17 @@ pub fn put_entry(
         return at;
     }
     let n = components(net, place);
-    let ranges = plus(place_at(net, place), 1);
     let next = put(
         words,
         at,
         0xB000_0000 + place % 256 * 0x4000 + count % 0x4000,
     );
-    put_slots(words, next, tuple_at(net, ranges, n, index), n)
+    put_slots(
+        words,
+        next,
+        tuple_at(net, ranges_at(net, place), n, index),
+        n,
+    )
 }
 
 // The entries of a place, whose counts stand from a cell on.
@@ -221,26 +172,20 @@ fn put_place(
     cells: &[u32],
     cell: usize,
 ) -> usize {
-    let all = colours(net, place);
     let mut at = start;
     let mut c = cell;
-    let mut index: u64 = 0;
-    while index < all {
+    for index in 0..colours(net, place) {
         at = put_entry(words, at, net, place, index, get(cells, c));
-        c = plus(c, 1);
-        index += 1;
+        c = c.wrapping_add(1);
     }
     at
 }
 
 // The marking words of counts; answers their number.
 pub fn put_marking(words: &mut [u32], net: &[u32], cells: &[u32]) -> usize {
-    let count = place_count(net);
     let mut at = 0;
-    let mut place: u32 = 0;
-    while place < count {
+    for place in 0..place_count(net) {
         at = put_place(words, at, net, place, cells, first_cell(net, place));
-        place += 1;
     }
     at
 }

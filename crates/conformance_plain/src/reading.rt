@@ -1,28 +1,10 @@
-// Where the parts of an accepted net and of a marking stand, read from document 01. Nothing is checked: a word beyond the end reads as 0.
-use std::num::{wrapping_add_u32, wrapping_add_usize, wrapping_sub_u32};
-
-pub fn wide(w: u32) -> usize {
-    w as usize
-}
-
-pub fn plus(a: usize, b: usize) -> usize {
-    wrapping_add_usize(a, b)
-}
-
-// One less, 0 for 0.
-pub fn less(n: usize) -> usize {
-    if n == 0 {
-        return 0;
-    }
-    n - 1
-}
+// Where the parts of an accepted net and of a marking stand, read from document 01. Nothing is checked: a word beyond the end reads as 0, and positions wrap,
+// so that no sum of them has to be shown to fit.
+ghost use Rattle.std.specs.Prelude.{◌<◌};
 
 // The word at a position, 0 beyond the end.
 pub fn get(words: &[u32], at: usize) -> u32 {
-    if at < words.len() {
-        return words[at];
-    }
-    0
+    words.get(at).copied().unwrap_or(0)
 }
 
 // The top four bits.
@@ -30,29 +12,33 @@ pub fn kind(w: u32) -> u32 {
     w / 0x1000_0000
 }
 
+// The value in the low 14 bits of a word.
+pub fn signed(w: u32) -> i32 {
+    let bits = (w % 0x4000) as i32;
+    if bits < 0x2000 { bits } else { bits - 0x4000 }
+}
+
 // How many expressions are due after a word of an expression.
 fn due_after(due: u32, w: u32) -> u32 {
     if kind(w) != 9 {
-        return wrapping_sub_u32(due, 1);
+        return due.wrapping_sub(1);
     }
     if w % 8 == 4 {
         return due;
     }
-    wrapping_add_u32(due, 1)
+    due.wrapping_add(1)
 }
 
 // The position after an expression, which has at most 15 words.
 pub fn skip(net: &[u32], start: usize) -> usize {
     let mut at = start;
-    let mut due: u32 = 1;
-    let mut left: u32 = 15;
-    while 0 < left {
+    let mut due = 1;
+    for _ in 0..15 {
         if due == 0 {
             return at;
         }
         due = due_after(due, get(net, at));
-        at = plus(at, 1);
-        left -= 1;
+        at = at.wrapping_add(1);
     }
     at
 }
@@ -60,10 +46,8 @@ pub fn skip(net: &[u32], start: usize) -> usize {
 // The position after several expressions.
 pub fn skip_several(net: &[u32], start: usize, count: u32) -> usize {
     let mut at = start;
-    let mut left = count;
-    while 0 < left {
+    for _ in 0..count {
         at = skip(net, at);
-        left -= 1;
     }
     at
 }
@@ -75,11 +59,9 @@ pub fn place_count(net: &[u32]) -> u32 {
 
 // The position of a PLACE word, or after all places.
 pub fn place_at(net: &[u32], place: u32) -> usize {
-    let mut at = 1;
-    let mut left = place;
-    while 0 < left {
-        at = plus(at, wide(get(net, at) % 8 + 1));
-        left -= 1;
+    let mut at: usize = 1;
+    for _ in 0..place {
+        at = at.wrapping_add(get(net, at) as usize % 8 + 1);
     }
     at
 }
@@ -89,22 +71,29 @@ pub fn components(net: &[u32], place: u32) -> u32 {
     get(net, place_at(net, place)) % 8
 }
 
+// The position of a place's first RANGE.
+pub fn ranges_at(net: &[u32], place: u32) -> usize {
+    place_at(net, place).wrapping_add(1)
+}
+
 // The place that an ARC word names.
 pub fn place_of(net: &[u32], arc: usize) -> u32 {
     get(net, arc) % 256
 }
 
 fn skip_arc(net: &[u32], at: usize) -> usize {
-    skip_several(net, plus(at, 1), components(net, place_of(net, at)) % 8 + 1)
+    skip_several(
+        net,
+        at.wrapping_add(1),
+        components(net, place_of(net, at)) % 8 + 1,
+    )
 }
 
 // The position after several arcs.
 pub fn skip_arcs(net: &[u32], start: usize, count: u32) -> usize {
     let mut at = start;
-    let mut left = count;
-    while 0 < left {
+    for _ in 0..count {
         at = skip_arc(net, at);
-        left -= 1;
     }
     at
 }
@@ -112,17 +101,16 @@ pub fn skip_arcs(net: &[u32], start: usize, count: u32) -> usize {
 // The position after several conjuncts.
 pub fn skip_conjuncts(net: &[u32], start: usize, count: u32) -> usize {
     let mut at = start;
-    let mut left = count;
-    while 0 < left {
-        at = skip_several(net, plus(at, 1), 2);
-        left -= 1;
+    for _ in 0..count {
+        at = skip_several(net, at.wrapping_add(1), 2);
     }
     at
 }
 
-// A transition: how many parts of each sort it has, and where they stand.
+// A transition of a net: how many parts of each sort it has, and where they stand.
 #[derive(Clone, Copy)]
-pub struct Shape {
+pub struct Shape<'n> {
+    pub net: &'n [u32],
     pub at: usize,
     pub variables: u32,
     pub inputs: u32,
@@ -136,79 +124,93 @@ pub struct Shape {
     pub elements_at: usize,
 }
 
-// The transition whose word stands at a position.
-pub fn shape_at(net: &[u32], at: usize) -> Shape {
-    let w = get(net, at);
-    let ranges = plus(at, 1);
-    let inputs_at = plus(ranges, wide(w % 16));
-    let outputs_at = skip_arcs(net, inputs_at, w / 16 % 16);
-    let conjuncts_at = skip_arcs(net, outputs_at, w / 256 % 16);
-    let elements_at = skip_conjuncts(net, conjuncts_at, w / 4096 % 16);
-    Shape {
-        at: at,
-        variables: w % 16,
-        inputs: w / 16 % 16,
-        outputs: w / 256 % 16,
-        conjuncts: w / 4096 % 16,
-        elements: w / 0x1_0000 % 16,
-        ranges: ranges,
-        inputs_at: inputs_at,
-        outputs_at: outputs_at,
-        conjuncts_at: conjuncts_at,
-        elements_at: elements_at,
+impl<'n> Shape<'n> {
+    // The transition whose word stands at a position.
+    pub fn at(net: &'n [u32], at: usize) -> Shape<'n> {
+        let w = get(net, at);
+        let ranges = at.wrapping_add(1);
+        let inputs_at = ranges.wrapping_add(w as usize % 16);
+        let outputs_at = skip_arcs(net, inputs_at, w / 16 % 16);
+        let conjuncts_at = skip_arcs(net, outputs_at, w / 256 % 16);
+        let elements_at = skip_conjuncts(net, conjuncts_at, w / 4096 % 16);
+        Shape {
+            net,
+            at,
+            variables: w % 16,
+            inputs: w / 16 % 16,
+            outputs: w / 256 % 16,
+            conjuncts: w / 4096 % 16,
+            elements: w / 0x1_0000 % 16,
+            ranges,
+            inputs_at,
+            outputs_at,
+            conjuncts_at,
+            elements_at,
+        }
     }
-}
 
-fn after_transition(net: &[u32], at: usize) -> usize {
-    let s = shape_at(net, at);
-    plus(s.elements_at, wide(s.elements))
+    // The position after the transition.
+    fn end(self) -> usize {
+        self.elements_at.wrapping_add(self.elements as usize)
+    }
+
+    // The RANGE of a variable.
+    pub fn range(self, v: u32) -> u32 {
+        get(self.net, self.ranges.wrapping_add(v as usize))
+    }
+
+    // The position of an input arc.
+    pub fn input(self, number: u32) -> usize {
+        skip_arcs(self.net, self.inputs_at, number)
+    }
+
+    // The position of a conjunct.
+    pub fn conjunct(self, number: u32) -> usize {
+        skip_conjuncts(self.net, self.conjuncts_at, number)
+    }
+
+    // An element of the plan.
+    pub fn element(self, number: u32) -> u32 {
+        get(self.net, self.elements_at.wrapping_add(number as usize))
+    }
 }
 
 // A transition by its number.
-pub fn shape_of(net: &[u32], transition: u32) -> Shape {
+pub fn shape_of(net: &[u32], transition: u32) -> Shape<'_> {
     let mut at = place_at(net, place_count(net));
-    let mut left = transition;
-    while 0 < left {
-        at = after_transition(net, at);
-        left -= 1;
+    for _ in 0..transition {
+        at = Shape::at(net, at).end();
     }
-    shape_at(net, at)
+    Shape::at(net, at)
 }
 
 // How many values a RANGE word has.
-pub fn values(range: u32) -> u32 {
-    wrapping_sub_u32(range % 0x4000, range / 0x4000) % 0x4000 + 1
+pub fn values(range: u32) -> u32
+    ensures { 0 < result }
+{
+    (range % 0x4000).wrapping_sub(range / 0x4000) % 0x4000 + 1
 }
 
 // The VALUE word of the value that is so many above a range's low one.
 pub fn value_above(range: u32, above: u32) -> u32 {
-    0xC000_0000 + wrapping_add_u32(range / 0x4000, above) % 0x4000
-}
-
-// The 14 bits of a value moved so that they are ordered as the values are.
-pub fn raised(w: u32) -> u32 {
-    (w % 0x4000 + 0x2000) % 0x4000
+    0xC000_0000 + (range / 0x4000).wrapping_add(above) % 0x4000
 }
 
 // Whether the value in the low 14 bits of a word is in a range.
 pub fn in_range(range: u32, w: u32) -> bool {
-    raised(range / 0x4000) <= raised(w) && raised(w) <= raised(range)
+    (signed(range / 0x4000)..=signed(range)).contains(&signed(w))
 }
 
-// The position of the first entry of a place from a start on, or the marking's length.
-pub fn next_entry(net: &[u32], marking: &[u32], start: usize, place: u32) -> usize {
+// The position of the first entry of a place from a start on.
+pub fn next_entry(net: &[u32], marking: &[u32], start: usize, place: u32) -> Option<usize> {
     let mut at = start;
-    let mut left = marking.len();
-    while 0 < left {
-        if marking.len() <= at {
-            return marking.len();
-        }
-        let p = get(marking, at) / 0x4000 % 256;
+    // An entry has a word at least.
+    for _ in marking {
+        let p = *marking.get(at)? / 0x4000 % 256;
         if p == place {
-            return at;
+            return Some(at);
         }
-        at = plus(at, wide(components(net, p) % 8 + 1));
-        left -= 1;
+        at = at.wrapping_add(components(net, p) as usize % 8 + 1);
     }
-    marking.len()
+    None
 }

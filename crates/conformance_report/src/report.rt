@@ -1,29 +1,27 @@
 // Lines of the output: the case, what test answers, what fire answers and what it leaves in the buffer.
-use conformance_plain::build::{front, put};
+use conformance_plain::build::front;
 use conformance_plain::reading::get;
 use firing::fire::fire;
-use semantics::{Fired, Tested};
+use semantics::refusal::Refusal;
 use testing::test::test;
 
-pub fn refused(n: u32, p: usize) {
+pub fn say_refused(e: Refusal) {
     io::write_all(1, b"refused ");
-    io::print_decimal(1, n as u64);
+    io::print_decimal(1, u64::from(e.number()));
     io::write_all(1, b" at ");
-    io::print_decimal(1, p as u64);
+    io::print_decimal(1, e.position() as u64);
 }
 
-pub fn say_test(t: Tested) {
+pub fn say_test(tested: Result<bool, Refusal>) {
     io::write_all(1, b" | test ");
-    match t {
-        Tested::Yes => {
+    match tested {
+        Ok(true) => {
             io::write_all(1, b"yes");
         }
-        Tested::No => {
+        Ok(false) => {
             io::write_all(1, b"no");
         }
-        Tested::Refused(n, p) => {
-            refused(n, p);
-        }
+        Err(e) => say_refused(e),
     }
 }
 
@@ -34,10 +32,8 @@ fn say_word(w: u32) {
 }
 
 pub fn say_words(words: &[u32]) {
-    let mut i = 0;
-    while i < words.len() {
-        say_word(words[i]);
-        i += 1;
+    for w in words {
+        say_word(*w);
     }
 }
 
@@ -47,48 +43,29 @@ pub fn mark(i: usize) -> u32 {
 }
 
 pub fn fill(buffer: &mut [u32]) {
-    let n = buffer.len();
-    let mut i = 0;
-    while i < n {
-        put(buffer, i, mark(i));
-        i += 1;
+    for (i, w) in buffer.iter_mut().enumerate() {
+        *w = mark(i);
     }
 }
 
 // The first position from a start on whose word is not as before the call, or the length.
 pub fn first_changed(buffer: &[u32], start: usize) -> usize {
-    let mut i = start;
-    while i < buffer.len() {
+    for i in start..buffer.len() {
         if buffer[i] != mark(i) {
             return i;
         }
-        i += 1;
     }
     buffer.len()
 }
 
-// Whether the first n words are equal.
+// Whether the first n words are equal, a word beyond the end being 0.
 pub fn same_words(a: &[u32], b: &[u32], n: usize) -> bool {
-    let mut i = 0;
-    while i < n {
-        if get(a, i) != get(b, i) {
-            return false;
-        }
-        i += 1;
-    }
-    true
+    (0..n).all(|i| get(a, i) == get(b, i))
 }
 
 // Whether the first n words are zeros.
 pub fn zeros(a: &[u32], n: usize) -> bool {
-    let mut i = 0;
-    while i < n {
-        if get(a, i) != 0 {
-            return false;
-        }
-        i += 1;
-    }
-    true
+    front(a, n).iter().all(|w| *w == 0)
 }
 
 // Whether the words from a start to an end are as before the call.
@@ -116,23 +93,23 @@ pub fn fire_into(
     binding: &[u32],
     buffer: &mut [u32],
     room: usize,
-) -> Fired {
+) -> Result<usize, Refusal> {
     if buffer.len() < room {
         return fire(net, transition, marking, binding, buffer);
     }
     fire(net, transition, marking, binding, &mut buffer[0..room])
 }
 
-fn say_refused(n: u32, p: usize, buffer: &[u32]) {
-    refused(n, p);
+fn say_unfired(e: Refusal, buffer: &[u32]) {
+    say_refused(e);
     io::write_all(1, b", buffer");
     say_stays(buffer, 0);
 }
 
-pub fn say_fire(f: Fired, buffer: &[u32]) {
+pub fn say_fire(fired: Result<usize, Refusal>, buffer: &[u32]) {
     io::write_all(1, b" | fire ");
-    match f {
-        Fired::Written(n) => {
+    match fired {
+        Ok(n) => {
             io::write_all(1, b"wrote ");
             io::print_decimal(1, n as u64);
             io::write_all(1, b":");
@@ -140,9 +117,7 @@ pub fn say_fire(f: Fired, buffer: &[u32]) {
             io::write_all(1, b", rest");
             say_stays(buffer, n);
         }
-        Fired::Refused(m, p) => {
-            say_refused(m, p, buffer);
-        }
+        Err(e) => say_unfired(e, buffer),
     }
 }
 
@@ -210,10 +185,10 @@ fn before(buffer: &[u32], end: usize) -> &[u32] {
     &buffer[end - 2..end]
 }
 
-fn say_long(f: Fired, buffer: &[u32]) {
+fn say_long(fired: Result<usize, Refusal>, buffer: &[u32]) {
     io::write_all(1, b" | fire ");
-    match f {
-        Fired::Written(n) => {
+    match fired {
+        Ok(n) => {
             io::write_all(1, b"wrote ");
             io::print_decimal(1, n as u64);
             io::write_all(1, b": from");
@@ -223,9 +198,7 @@ fn say_long(f: Fired, buffer: &[u32]) {
             io::write_all(1, b", rest");
             say_stays(buffer, n);
         }
-        Fired::Refused(m, p) => {
-            say_refused(m, p, buffer);
-        }
+        Err(e) => say_unfired(e, buffer),
     }
 }
 

@@ -1,33 +1,30 @@
 -- The rules of binding: what the marks are after an element's part was looked at. Each rule is one arm of the code.
 -- A position has a lone variable or none, whatever is bound (`Lone`); in the loop over components what is still to be bound, with what is
 -- marked, is what was to be bound at first.
-use mathlib.Core.Path.{◌≡◌, refl, sym, ap, ◌∙◌, subst}
+use mathlib.Core.Path.{◌≡◌, refl, sym, ap, ◌∙◌}
 use mathlib.Core.Logic.{◌⊎◌, inl, inr}
 use Prim.Native.Nat.{ℕ, suc, ◌+◌, ◌-◌, ◌≤◌, ◌<◌}
-use mathlib.Core.Bool.{Bool, true, false, cond, not, ◌||◌, or-false}
+use mathlib.Core.Bool.{Bool, true, false, cond, not, ◌||◌}
 use mathlib.Core.List.{List, [], ◌∷◌, ◌++◌}
 use native.Mathlib.Omega.{arith}
+use Rattle.std.specs.Prelude.{Result, Ok, Err}
 use borrow.Author.Rules.{rules}
 use borrow.Author.Tests.{lt-ltb, le-ltb, lt-leb, le-leb, eqb-true, eqb-false}
+use Rattle.std.proofs.Math.Bool.{or_comm}
 use lib.Dec.{ltb, eqb}
 use lib.ListN.{length, get_or, set, get_or-eq_default}
 use lib.Seq.{get_or-set_same, get_or-set_other}
-use mir.Syntax.{w64}
-use mir.Val.{Fits}
-use Rattle.semantics.specs.Refusal.{most_words}
 use Rattle.semantics.specs.Word.{between}
 use Rattle.semantics.specs.Reading.{Reading, read, refused, word}
 use Rattle.semantics.specs.Plan.{member}
 use Rattle.semantics.proofs.Tests.{either, not_both, or_cases, or_left, or_right}
 use Rattle.semantics.proofs.Partial.{member_append}
-use Rattle.expression.specs.declared.read.Skipped.{Skipped}
-use Rattle.expression.specs.declared.read.Skipped.TheVariants.{Next, Refused}
+use Rattle.semantics.specs.declared.refusal.Refusal.{Refusal}
+use Rattle.semantics.specs.Answer.{refusing}
 use Rattle.expression.specs.Skip.{skipped}
-use Rattle.kinds.specs.declared.take.Taken.{Taken}
-use Rattle.kinds.specs.declared.take.Taken.TheVariants.{Word, Refused as TakeRefused}
-use Rattle.kinds.specs.Taken.{fits_kind, Takes, IsTaken}
+use Rattle.kinds.specs.Taken.{fits_kind, IsTaken}
 use Rattle.net.specs.Skim.{skim_expression}
-use Rattle.net.proofs.Structures.{word-told, next_fits}
+use Rattle.net.proofs.Structures.{word-told}
 use Rattle.elements.specs.Binds.{after, unbound_of, lone_at, lone_from, match_at}
 use Rattle.elements.specs.Bound.{marked, non_empty, IsBound}
 
@@ -65,11 +62,11 @@ module _ (v : ℕ) (marks : List Bool) {n : ℕ} where
   pub variable-new : n < v → v ≤ length marks → marked marks n ≡ false → IsBound marks (unbound_of v (marked marks) n) true (set marks n true)
   variable-new h i m = rw (lt-ltb n v h, m) (bound-new marks n (omega arith))
 
-module _ (ws : List ℕ) (v at : ℕ) (marks : List Bool) {t : Taken} (w : IsTaken ws at 8 t) where
-  pub lone-refused : {m s : ℕ} → t ≡ TakeRefused m s → IsBound marks (lone_at ws v (marked marks) at) false marks
+module _ (ws : List ℕ) (v at : ℕ) (marks : List Bool) {t : Result ℕ Refusal} (w : IsTaken ws at 8 t) where
+  pub lone-refused : {e : Refusal} → t ≡ Err e → IsBound marks (lone_at ws v (marked marks) at) false marks
   lone-refused e = rw (word-told w e) (bound-none marks)
 
-  pub lone-taken : {n : ℕ} {r : Bool} {marks' : List Bool} → t ≡ Word n → IsBound marks (unbound_of v (marked marks) n) r marks' → IsBound marks (lone_at ws v (marked marks) at) r marks'
+  pub lone-taken : {n : ℕ} {r : Bool} {marks' : List Bool} → t ≡ Ok n → IsBound marks (unbound_of v (marked marks) n) r marks' → IsBound marks (lone_at ws v (marked marks) at) r marks'
   lone-taken e x = rw (word-told w e) x
 
 -- a position has no lone variable, or one, whatever is bound
@@ -103,23 +100,11 @@ pub record Binding (ws : List ℕ) (v : ℕ) (marks₀ : List Bool) (n at i next
   pub kept : (k : ℕ) → marked marks₀ k ≡ true → marked marks k ≡ true
   pub fresh : (k : ℕ) → marked marks k ≡ true → marked marks₀ k ≡ false → some ≡ true
 
-pub binding-start : (ws : List ℕ) (v : ℕ) (marks : List Bool) (n at : ℕ) → Binding ws v marks n at 0 at false marks
-binding-start ws v marks n at =
-    let e : n - 0 ≡ n = omega arith in
-    record { inside = omega arith; same_some = rw e (or-false (non_empty (lone_from ws v (marked marks) n at))); same-marks = λ k. rw e; kept = λ k h. h; fresh = λ k p q. absurd (not_both (marked marks k) p q) }
-
 pub binding-end : {ws : List ℕ} {v : ℕ} {marks₀ : List Bool} {n at i next : ℕ} {some : Bool} {marks : List Bool} → Binding ws v marks₀ n at i next some marks → n ≤ i → IsBound marks₀ (lone_from ws v (marked marks₀) n at) some marks
 unfolding lone_from member
 binding-end {n = n} {i = i} a h =
     let d : n - i ≡ 0 = omega arith in
     record { some = rw d at a.same_some; marks = λ k. rw d at (a.same-marks k) }
-
--- what is noted: one was bound just now, or before
-pub noted-new : {t now : Bool} (some : Bool) → t ≡ true → now ≡ true → now ≡ (t || some)
-noted-new some p e = rw p e
-
-pub noted-before : {t some now : Bool} → t ≡ false → now ≡ some → now ≡ (t || some)
-noted-before p e = rw p e
 
 module _ {ws : List ℕ} {v : ℕ} {marks₀ : List Bool} {n at i next : ℕ} {some t : Bool} {marks marks' : List Bool} (a : Binding ws v marks₀ n at i next some marks) (h : i < n) (x : IsBound marks (lone_at ws v (marked marks) next) t marks') where
   -- the lone variable of this position, by the marks at first and by those now
@@ -191,47 +176,43 @@ module _ {ws : List ℕ} {v : ℕ} {marks₀ : List Bool} {n at i next : ℕ} {s
       by (inl e) = or_left t some (x.some ∙ some-member (lone_at ws v (marked marks) next) e)
       by (inr e) = or_right t some (a.fresh k e q)
 
-  -- one position on, `now` being what was bound before or just now
-  module _ {now : Bool} (o : now ≡ (t || some)) where
-    pub binding_turn : {s : Skipped} {p : ℕ} → skipped s ≡ skim_expression ws v next → s ≡ Next p → Binding ws v marks₀ n at (i + 1) p now marks'
-    unfolding lone_from
-    binding_turn {s} {p} y e =
-        let d : n - i ≡ suc (n - (i + 1)) = omega arith in
-        let z : skim_expression ws v next ≡ read tt p = sym y ∙ ap skipped e in
-        rw o
-        (record {
-          inside = omega arith;
-          same_some = turned_some (lone_from ws v (marked marks₀) (n - (i + 1)) p) ∙ (rw (d, z) at a.same_some);
-          same-marks = λ k. turned_marks (lone_from ws v (marked marks₀) (n - (i + 1)) p) k ∙ (rw (d, z) at (a.same-marks k));
-          kept = turned_kept;
-          fresh = turned_fresh;
-        })
+  -- what is noted: one was bound before, or just now
+  noted : (some || t) ≡ (t || some)
+  noted = or_comm some t
 
-    -- where the expression cannot be passed over nothing more is bound
-    pub binding-stop : {s : Skipped} {m q : ℕ} → skipped s ≡ skim_expression ws v next → s ≡ Refused m q → IsBound marks₀ (lone_from ws v (marked marks₀) n at) now marks'
-    unfolding lone_from member
-    binding-stop {s} {m} {q} y e =
-        let d : n - i ≡ suc (n - (i + 1)) = omega arith in
-        let z : skim_expression ws v next ≡ refused m q = sym y ∙ ap skipped e in
-        record { some = o ∙ turned_some [] ∙ (rw (d, z) at a.same_some); marks = λ k. turned_marks [] k ∙ (rw (d, z) at (a.same-marks k)) }
+  pub binding_turn : {s : Result ℕ Refusal} {p : ℕ} → skipped s ≡ skim_expression ws v next → s ≡ Ok p → Binding ws v marks₀ n at (i + 1) p (some || t) marks'
+  unfolding lone_from
+  binding_turn {s} {p} y e =
+      let d : n - i ≡ suc (n - (i + 1)) = omega arith in
+      let z : skim_expression ws v next ≡ read tt p = sym y ∙ ap skipped e in
+      rw noted
+      (record {
+        inside = omega arith;
+        same_some = turned_some (lone_from ws v (marked marks₀) (n - (i + 1)) p) ∙ (rw (d, z) at a.same_some);
+        same-marks = λ k. turned_marks (lone_from ws v (marked marks₀) (n - (i + 1)) p) k ∙ (rw (d, z) at (a.same-marks k));
+        kept = turned_kept;
+        fresh = turned_fresh;
+      })
+
+  -- where the expression cannot be passed over nothing more is bound
+  pub binding-stop : {s : Result ℕ Refusal} {r : Refusal} → skipped s ≡ skim_expression ws v next → s ≡ Err r → IsBound marks₀ (lone_from ws v (marked marks₀) n at) (some || t) marks'
+  unfolding lone_from member
+  binding-stop {s} {r} y e =
+      let d : n - i ≡ suc (n - (i + 1)) = omega arith in
+      let z : skim_expression ws v next ≡ refusing r = sym y ∙ ap skipped e in
+      record { some = noted ∙ turned_some [] ∙ (rw (d, z) at a.same_some); marks = λ k. turned_marks [] k ∙ (rw (d, z) at (a.same-marks k)) }
 
 -- ── A match ──
 
--- the position after the next is a number of the machine
-pub later-fits : {ws : List ℕ} {at k : ℕ} {t : Taken} → IsTaken ws at k t → {p : ℕ} → t ≡ Word p → Fits w64 (at + 2)
-later-fits {ws} {at} {k} w e =
-    let h : at < most_words = (subst (Takes ws at k) e w.exists).in_limit in
-    record { fits = omega arith }
-
-module _ (ws widths : List ℕ) (v at : ℕ) (marks : List Bool) {t : Taken} (w : IsTaken ws at 5 t) where
+module _ (ws widths : List ℕ) (v at : ℕ) (marks : List Bool) {t : Result ℕ Refusal} (w : IsTaken ws at 5 t) where
   nothing : match_at ws widths v (marked marks) at ≡ [] → IsBound marks (match_at ws widths v (marked marks) at) false marks
   nothing e = rw e (bound-none marks)
 
-  pub match-refused : {m s : ℕ} → t ≡ TakeRefused m s → IsBound marks (match_at ws widths v (marked marks) at) false marks
+  pub match-refused : {e : Refusal} → t ≡ Err e → IsBound marks (match_at ws widths v (marked marks) at) false marks
   unfolding match_at
   match-refused e = nothing (rw (word-told w e))
 
-  pub match_nowhere : {q : ℕ} → t ≡ Word q → length widths ≤ q → IsBound marks (match_at ws widths v (marked marks) at) false marks
+  pub match_nowhere : {q : ℕ} → t ≡ Ok q → length widths ≤ q → IsBound marks (match_at ws widths v (marked marks) at) false marks
   unfolding match_at lone_from
   match_nowhere {q} e h = nothing (rw (word-told w e, get_or-eq_default widths 0 {n = q} h) (by (word ws 7 (fits_kind 7) (at + 1))))
     where
@@ -239,23 +220,23 @@ module _ (ws widths : List ℕ) (v at : ℕ) (marks : List Bool) {t : Taken} (w 
       by (read z from) = cond_same (between 1 8191 z) []
       by (refused n p) = refl
 
-  module _ {q : ℕ} (e : t ≡ Word q) {u : Taken} (x : IsTaken ws (at + 1) 7 u) where
-    pub coefficient-refused : {m s : ℕ} → u ≡ TakeRefused m s → IsBound marks (match_at ws widths v (marked marks) at) false marks
+  module _ {q : ℕ} (e : t ≡ Ok q) {u : Result ℕ Refusal} (x : IsTaken ws (at + 1) 7 u) where
+    pub coefficient-refused : {e : Refusal} → u ≡ Err e → IsBound marks (match_at ws widths v (marked marks) at) false marks
     unfolding match_at
     coefficient-refused d = nothing (rw (word-told w e, word-told x d))
 
-    pub coefficient-low : {z : ℕ} → u ≡ Word z → z < 1 → IsBound marks (match_at ws widths v (marked marks) at) false marks
+    pub coefficient-low : {z : ℕ} → u ≡ Ok z → z < 1 → IsBound marks (match_at ws widths v (marked marks) at) false marks
     unfolding match_at
     coefficient-low {z} d h = nothing (rw (word-told w e, word-told x d, lt-leb 1 z h))
 
-    pub coefficient-high : {z : ℕ} → u ≡ Word z → 1 ≤ z → 8191 < z → IsBound marks (match_at ws widths v (marked marks) at) false marks
+    pub coefficient-high : {z : ℕ} → u ≡ Ok z → 1 ≤ z → 8191 < z → IsBound marks (match_at ws widths v (marked marks) at) false marks
     unfolding match_at
     coefficient-high {z} d h i = nothing (rw (word-told w e, word-told x d, le-leb 1 z h, lt-leb z 8191 i))
 
-    pub match-each : {z : ℕ} {r : Bool} {marks' : List Bool} → u ≡ Word z → 1 ≤ z → z ≤ 8191 → IsBound marks (lone_from ws v (marked marks) (get_or widths q 0) (at + 2)) r marks' → IsBound marks (match_at ws widths v (marked marks) at) r marks'
+    pub match-each : {z : ℕ} {r : Bool} {marks' : List Bool} → u ≡ Ok z → 1 ≤ z → z ≤ 8191 → IsBound marks (lone_from ws v (marked marks) (get_or widths q 0) (at + 2)) r marks' → IsBound marks (match_at ws widths v (marked marks) at) r marks'
     unfolding match_at
     match-each {z} d h i y =
         let f : at + 1 + 1 ≡ at + 2 = omega arith in
         rw (word-told w e, word-told x d, le-leb 1 z h, le-leb z 8191 i, f) y
 
-pub ruleset binding = (rules, variable-beyond, variable-bound, variable-new, lone-refused, lone-taken, binding-end, next_fits, later-fits, match-refused, match_nowhere, coefficient-refused, coefficient-low, coefficient-high, match-each)
+pub ruleset binding = (rules, variable-beyond, variable-bound, variable-new, lone-refused, lone-taken, binding-end, match-refused, match_nowhere, coefficient-refused, coefficient-low, coefficient-high, match-each)

@@ -6,6 +6,7 @@ use Prim.Native.Nat.{ℕ, ◌+◌, ◌≤◌, ◌<◌}
 use mathlib.Core.Bool.{Bool, true, false, ◌&&◌, ◌||◌}
 use mathlib.Core.List.{List, [], ◌∷◌}
 use native.Mathlib.Omega.{arith}
+use Rattle.std.specs.Prelude.{Result, Ok, Err}
 use native.Mathlib.Numerals.{add-one}
 use borrow.Author.Rules.{rules}
 use borrow.Author.Tests.{ne_eqb}
@@ -15,15 +16,12 @@ use Rattle.semantics.specs.Lists.{every}
 use Rattle.semantics.specs.Plan.{member}
 use Rattle.semantics.specs.Word.{kind, payload}
 use Rattle.semantics.proofs.Tests.{false_true}
-use Rattle.expression.specs.declared.read.Skipped.{Skipped}
-use Rattle.expression.specs.declared.read.Skipped.TheVariants.{Next, Refused}
-use Rattle.expression.specs.Skip.{skipped, Skips}
+use Rattle.semantics.specs.declared.refusal.Refusal.{Refusal}
+use Rattle.expression.specs.Skip.{skipped}
 use Rattle.expression.proofs.Laws.{variable_passes}
-use Rattle.kinds.specs.declared.take.Taken.{Taken}
-use Rattle.kinds.specs.declared.take.Taken.TheVariants.{Word, Refused as TakeRefused}
 use Rattle.kinds.specs.Taken.{IsTaken}
 use Rattle.net.specs.Skim.{skim_expression}
-use Rattle.net.proofs.Structures.{word-told, next_fits}
+use Rattle.net.proofs.Structures.{word-told}
 use Rattle.elements.specs.Binds.{lone_at, all_bound, solved_at, first_of, solve_at}
 use Rattle.elements.specs.Bound.{marked, non_empty, IsBound}
 use Rattle.elements.proofs.Binding.{bound-none}
@@ -85,32 +83,32 @@ first-none [] f {marks} {marks'} {marks''} {r} {s} x q y =
     }
 first-none (m ∷ ms) f x q y = false_true (sym q ∙ x.some)
 
-module _ (ws : List ℕ) (v at : ℕ) (marks : List Bool) {t : Taken} (w : IsTaken ws at 6 t) where
-  pub solve-refused : {m s : ℕ} → t ≡ TakeRefused m s → IsBound marks (solve_at ws v (marked marks) at) false marks
+module _ (ws : List ℕ) (v at : ℕ) (marks : List Bool) {t : Result ℕ Refusal} (w : IsTaken ws at 6 t) where
+  pub solve-refused : {e : Refusal} → t ≡ Err e → IsBound marks (solve_at ws v (marked marks) at) false marks
   unfolding solve_at
   solve-refused e = rw (word-told w e) (bound-none marks)
 
-  pub solve-other : {k : ℕ} → t ≡ Word k → (k ≡ 0 → ⊥) → IsBound marks (solve_at ws v (marked marks) at) false marks
+  pub solve-other : {k : ℕ} → t ≡ Ok k → (k ≡ 0 → ⊥) → IsBound marks (solve_at ws v (marked marks) at) false marks
   unfolding solve_at
   solve-other {k} e q = rw (word-told w e, ne_eqb k 0 q) (bound-none marks)
 
-  module _ {k : ℕ} (e : t ≡ Word k) (z : k ≡ 0) {s : Skipped} (x : skipped s ≡ skim_expression ws v (at + 1)) where
-    left_is : {u : Skipped} → s ≡ u → skim_expression ws v (at + 1) ≡ skipped u
+  module _ {k : ℕ} (e : t ≡ Ok k) (z : k ≡ 0) {s : Result ℕ Refusal} (x : skipped s ≡ skim_expression ws v (at + 1)) where
+    left_is : {u : Result ℕ Refusal} → s ≡ u → skim_expression ws v (at + 1) ≡ skipped u
     left_is d = sym x ∙ ap skipped d
 
-    pub left-refused : {m p : ℕ} → s ≡ Refused m p → IsBound marks (solve_at ws v (marked marks) at) false marks
+    pub left-refused : {e : Refusal} → s ≡ Err e → IsBound marks (solve_at ws v (marked marks) at) false marks
     unfolding solve_at
     left-refused d = rw (word-told w e, z, left_is d) (bound-none marks)
 
-    module _ {right : ℕ} (d : s ≡ Next right) {u : Skipped} (y : skipped u ≡ skim_expression ws v right) where
-      right_is : {o : Skipped} → u ≡ o → skim_expression ws v right ≡ skipped o
+    module _ {right : ℕ} (d : s ≡ Ok right) {u : Result ℕ Refusal} (y : skipped u ≡ skim_expression ws v right) where
+      right_is : {o : Result ℕ Refusal} → u ≡ o → skim_expression ws v right ≡ skipped o
       right_is f = sym y ∙ ap skipped f
 
-      pub right-refused : {m p : ℕ} → u ≡ Refused m p → IsBound marks (solve_at ws v (marked marks) at) false marks
+      pub right-refused : {e : Refusal} → u ≡ Err e → IsBound marks (solve_at ws v (marked marks) at) false marks
       unfolding solve_at
       right-refused f = rw (word-told w e, z, left_is d, right_is f) (bound-none marks)
 
-      module _ {end : ℕ} (f : u ≡ Next end) {r : Bool} {marks' : List Bool} (g : IsBound marks (solved_at ws v (marked marks) (at + 1) right end) r marks') where
+      module _ {end : ℕ} (f : u ≡ Ok end) {r : Bool} {marks' : List Bool} (g : IsBound marks (solved_at ws v (marked marks) (at + 1) right end) r marks') where
         pub solve-first : r ≡ true → IsBound marks (solve_at ws v (marked marks) at) true marks'
         unfolding solve_at
         solve-first q = rw (word-told w e, z, left_is d, right_is f) (first_some _ _ g q)
@@ -119,7 +117,4 @@ module _ (ws : List ℕ) (v at : ℕ) (marks : List Bool) {t : Taken} (w : IsTak
         unfolding solve_at
         solve-second q i = rw (word-told w e, z, left_is d, right_is f) (first-none _ (λ is_bound. solved_at ws v is_bound right (at + 1) right) g q i)
 
-pub skip_in : (ws : List ℕ) (at : ℕ) {s : Skipped} {p : ℕ} → s ≡ Next p → Skips ws at s → p ≤ length ws
-skip_in ws at e k = (subst (Skips ws at) e k).in_words
-
-pub ruleset solving = (rules, side_known, side_unknown, solve-refused, solve-other, left-refused, right-refused, solve-first, solve-second, next_fits, skip_in, passes_other, passes_variable, passes_beyond, bound-end, bound_turn, bound-stop)
+pub ruleset solving = (rules, side_known, side_unknown, solve-refused, solve-other, left-refused, right-refused, solve-first, solve-second, passes_other, passes_variable, passes_beyond, bound-end, bound_turn, bound-stop)

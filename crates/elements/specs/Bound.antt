@@ -1,6 +1,5 @@
 -- What the answers of src/ say of elements: which one a word is, and which variables are bound.
 use Rattle.std.specs.Prelude.{◌≡◌, ℕ, Bool, true, false, ◌||◌, List, [], ◌∷◌, get_or}
-use Rattle.std.proofs.Math.Option.{some}
 use Rattle.semantics.specs.Net as net
 use Rattle.semantics.specs.Plan.{member}
 use Rattle.elements.specs.declared.element.Sort.{Sort}

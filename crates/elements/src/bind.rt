@@ -3,8 +3,8 @@ ghost use Rattle.std.specs.Prelude.{◌≤◌, length};
 ghost use Rattle.elements.specs.Binds.{unbound_of, lone_at, lone_from, match_at};
 ghost use Rattle.elements.specs.Bound.{marked, IsBound};
 
-use expression::read::{Skipped, skip_expression};
-use kinds::take::{Taken, take};
+use expression::read::skip_expression;
+use kinds::take::take;
 
 // Binds a variable that is below `variables` and not bound; whether it was bound just now.
 pub fn bind_variable(variables: usize, marks: &mut [bool], n: usize) -> bool
@@ -26,10 +26,10 @@ pub fn bind_lone(words: &[u32], variables: usize, marks: &mut [bool], at: usize)
     requires { variables ≤ length marks.old }
     ensures { IsBound marks.old (lone_at words.now variables (marked marks.old) at) result marks.new }
 {
-    match take(words, at, 8) {
-        Taken::Word(p) => bind_variable(variables, marks, p as usize),
-        Taken::Refused(_, _) => false,
-    }
+    let Ok(n) = take(words, at, 8) else {
+        return false;
+    };
+    bind_variable(variables, marks, n as usize)
 }
 
 // Binds those of n expressions, one after the other; whether one was bound.
@@ -38,21 +38,13 @@ fn bind_each(words: &[u32], variables: usize, marks: &mut [bool], n: usize, at: 
     ensures { IsBound marks.old (lone_from words.now variables (marked marks.old) n at) result marks.new }
 {
     let mut some = false;
-    let mut i = 0;
     let mut next = at;
-    while i < n {
-        if bind_lone(words, variables, marks, next) {
-            some = true;
-        }
-        match skip_expression(words, variables, next) {
-            Skipped::Next(p) => {
-                next = p;
-            }
-            Skipped::Refused(_, _) => {
-                return some;
-            }
-        }
-        i += 1;
+    for _ in 0..n {
+        some |= bind_lone(words, variables, marks, next);
+        let Ok(after) = skip_expression(words, variables, next) else {
+            return some;
+        };
+        next = after;
     }
     some
 }
@@ -68,25 +60,18 @@ pub fn bind_match(
     requires { variables ≤ length marks.old }
     ensures { IsBound marks.old (match_at words.now widths.now variables (marked marks.old) at) result marks.new }
 {
-    match take(words, at, 5) {
-        Taken::Word(q) => {
-            let place = q as usize;
-            if widths.len() <= place {
-                return false;
-            }
-            match take(words, at + 1, 7) {
-                Taken::Word(z) => {
-                    if z < 1 {
-                        return false;
-                    }
-                    if 8191 < z {
-                        return false;
-                    }
-                    bind_each(words, variables, marks, widths[place], at + 2)
-                }
-                Taken::Refused(_, _) => false,
-            }
-        }
-        Taken::Refused(_, _) => false,
+    let Ok(q) = take(words, at, 5) else {
+        return false;
+    };
+    let place = q as usize;
+    if widths.len() <= place {
+        return false;
     }
+    let Ok(z) = take(words, at + 1, 7) else {
+        return false;
+    };
+    if z < 1 || 8191 < z {
+        return false;
+    }
+    bind_each(words, variables, marks, widths[place], at + 2)
 }

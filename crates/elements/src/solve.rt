@@ -5,8 +5,8 @@ ghost use Rattle.elements.specs.Binds.{all_bound, solved_at, solve_at};
 ghost use Rattle.elements.specs.Bound.{marked, IsBound};
 
 use crate::bind::bind_lone;
-use expression::read::{Skipped, skip_expression};
-use kinds::take::{Taken, take};
+use expression::read::skip_expression;
+use kinds::take::take;
 use word::fields::{kind, payload};
 
 // Whether a word is not a variable, or a bound one.
@@ -30,12 +30,10 @@ fn all_bound(words: &[u32], marks: &[bool], from: usize, to: usize) -> bool
     requires to_in_bounds { to ≤ length words.now }
     ensures { result ≡ all_bound words.now (marked marks.now) from to }
 {
-    let mut at = from;
-    while at < to {
+    for at in from..to {
         if !passes(marks, words[at]) {
             return false;
         }
-        at += 1;
     }
     true
 }
@@ -66,24 +64,20 @@ pub fn bind_solve(words: &[u32], variables: usize, marks: &mut [bool], at: usize
     requires marks_len { length marks.old ≡ 8 }
     ensures { IsBound marks.old (solve_at words.now variables (marked marks.old) at) result marks.new }
 {
-    match take(words, at, 6) {
-        Taken::Word(relation) => {
-            if relation != 0 {
-                return false;
-            }
-            match skip_expression(words, variables, at + 1) {
-                Skipped::Next(right) => match skip_expression(words, variables, right) {
-                    Skipped::Next(end) => {
-                        if bind_side(words, variables, marks, at + 1, right, end) {
-                            return true;
-                        }
-                        bind_side(words, variables, marks, right, at + 1, right)
-                    }
-                    Skipped::Refused(_, _) => false,
-                },
-                Skipped::Refused(_, _) => false,
-            }
-        }
-        Taken::Refused(_, _) => false,
+    let Ok(relation) = take(words, at, 6) else {
+        return false;
+    };
+    if relation != 0 {
+        return false;
     }
+    let Ok(right) = skip_expression(words, variables, at + 1) else {
+        return false;
+    };
+    let Ok(end) = skip_expression(words, variables, right) else {
+        return false;
+    };
+    if bind_side(words, variables, marks, at + 1, right, end) {
+        return true;
+    }
+    bind_side(words, variables, marks, right, at + 1, right)
 }

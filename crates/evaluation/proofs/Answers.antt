@@ -15,9 +15,7 @@ use Rattle.semantics.specs.Reading.{Reading, read, refused}
 use Rattle.semantics.specs.ReadNet.{read_expression}
 use Rattle.semantics.proofs.Tests.{false_true}
 use Rattle.semantics.proofs.Words.{modulo_below, value-kind, value-payload, signed-modulo}
-use Rattle.evaluation.specs.declared.evaluate.Evaluated.{Evaluated}
-use Rattle.evaluation.specs.declared.evaluate.Evaluated.TheVariants.{Value, NoValue}
-use Rattle.evaluation.specs.Evaluate.{value_of, lent, valued, evaluated, evaluated_from}
+use Rattle.evaluation.specs.Evaluate.{value_of, lent, valued, evaluated_from}
 
 -- an expression is read at a position, and has a value or none
 pub record Valued (ws bs : List ℕ) (at : ℕ) (v : Option ℤ) (next : ℕ) : Type 0 where
@@ -33,26 +31,12 @@ module _ (ws bs : List ℕ) (at : ℕ) where
   pub known-valued : {v : Option ℤ} {p : ℕ} → evaluated_from (lent bs) (read_expression ws (length bs) at) ≡ valued v p → Valued ws bs at v p
   known-valued {v} {p} h = read-valued v p (read_expression ws (length bs) at) refl (sym h)
 
-  module _ {r : Evaluated} (h : evaluated r ≡ evaluated_from (lent bs) (read_expression ws (length bs) at)) where
-    pub has_value : {z : ℤ} {p : ℕ} → r ≡ Value z p → Valued ws bs at (some z) p
-    has_value {z} {p} d = read-valued (some z) p (read_expression ws (length bs) at) refl (rw d at h)
-
-    pub has_none : {p : ℕ} → r ≡ NoValue p → Valued ws bs at none p
-    has_none {p} d = read-valued none p (read_expression ws (length bs) at) refl (rw d at h)
-
 -- ── An expression that is known to be read ──
 
 module _ (ws : List ℕ) (variables at : ℕ) {e : Expression} {next : ℕ} (x : read_expression ws variables at ≡ read e next) where
   -- what evaluate answers is the tree's value
-  module _ (bs : List ℕ) (n : length bs ≡ variables) (r : Evaluated) (h : evaluated r ≡ evaluated_from (lent bs) (read_expression ws (length bs) at)) where
-    pub read_evaluates : evaluated r ≡ valued (value house_table (lent bs) e) next
-    read_evaluates = rw (n, x) at h
-
-    pub read-value : {z : ℤ} {p : ℕ} → r ≡ Value z p → (value house_table (lent bs) e ≡ some z) × (p ≡ next)
-    read-value {z} {p} d = let v : valued (some z) p ≡ valued (value house_table (lent bs) e) next = rw d at read_evaluates in (cc, cc)
-
-    pub read_no_value : {p : ℕ} → r ≡ NoValue p → (value house_table (lent bs) e ≡ none) × (p ≡ next)
-    read_no_value {p} d = let v : valued none p ≡ valued (value house_table (lent bs) e) next = rw d at read_evaluates in (cc, cc)
+  pub read-value : (bs : List ℕ) → length bs ≡ variables → {v : Option ℤ} {p : ℕ} → valued v p ≡ evaluated_from (lent bs) (read_expression ws (length bs) at) → (value house_table (lent bs) e ≡ v) × (p ≡ next)
+  read-value bs n {v} {p} h = let i : valued v p ≡ valued (value house_table (lent bs) e) next = rw (n, x) at h in (cc, cc)
 
 -- ── Bindings ──
 

@@ -1,18 +1,15 @@
 -- An expression evaluated where it stands: the value of its tree under a binding of lent words. That it stands there is a fact of an accepted net.
--- Rests on semantics/specs/ReadNet and numbers/specs/Number.
-use Rattle.std.specs.Prelude.{◌≡◌, ◌&&◌, List, ℕ, ◌<◌, eqb, ℤ, length}
-use Rattle.std.proofs.Math.Option.{Option, none, some, bind}
+-- Rests on semantics/specs/{ReadNet, Answer}.
+use Rattle.std.specs.Prelude.{◌≡◌, ◌&&◌, List, ℕ, ◌<◌, eqb, ℤ, get_or, length}
+use Rattle.std.proofs.Math.Option.{Option, bind}
 use Rattle.std.proofs.Math.ListN.{get_elem?}
 use Rattle.semantics.specs.Word.{kind, payload, only, signed}
 use Rattle.semantics.specs.Expression.{Expression, Environment, given, house_table, value}
+use Rattle.semantics.specs.Answer.{option_of}
 use Rattle.semantics.specs.Reading.{Reading, read, refused}
 use Rattle.semantics.specs.ReadNet.{binary_head, load_head, operands, expression_in}
 use Rattle.word.specs.Operator.{operator_of}
-use Rattle.numbers.specs.declared.number.Number.{Number}
-use Rattle.numbers.specs.Number.{number}
 use Rattle.evaluation.specs.declared.evaluate.Evaluated.{Evaluated}
-use Rattle.evaluation.specs.declared.evaluate.Evaluated.TheVariants.{Value, NoValue}
-use Rattle.evaluation.specs.declared.evaluate.Outcome.{Outcome}
 
 -- "VALUE: 0-13 value": the value of a VALUE word
 abbrev pub value_of : ℕ → Option ℤ
@@ -28,8 +25,7 @@ pub data Valuation : Type 0 where
   unread : Valuation
 
 abbrev pub evaluated : Evaluated → Valuation
-evaluated (Value z next) = valued (some z) next
-evaluated (NoValue next) = valued none next
+evaluated r = valued (option_of r.value) r.next
 
 -- the value of what is read
 abbrev pub evaluated_from : Environment → Reading Expression → Valuation
@@ -57,37 +53,27 @@ pub record StandTwo (ws : List ℕ) (v at : ℕ) : Type 0 where
   pub reads_first : expression_in rounds ws v stop at ≡ read first mid
   pub reads_second : expression_in rounds ws v stop mid ≡ read second next
 
--- the value that an outcome has, if any
-abbrev pub outcome_value : Outcome → Option ℤ
-outcome_value r = given r.some r.z
+-- one that begins with an operator: with neither a constant nor a variable
+pub record HasOperator (ws : List ℕ) (v at : ℕ) : Type 0 where
+  pub stands : Stands ws v at
+  pub no_constant : kind (get_or ws at 0) ≡ 7 → ⊥
+  pub no_variable : kind (get_or ws at 0) ≡ 8 → ⊥
 
-abbrev pub outcome : Outcome → Valuation
-outcome r = valued (outcome_value r) r.next
-
--- that value as a number
-pub record IsValueIn (r : Outcome) (x : Number) : Type 0 where
-  pub same : number x ≡ outcome_value r
-
--- an outcome made of a value that may be missing
-pub record Made (x : Number) (next : ℕ) (r : Outcome) : Type 0 where
-  pub value : outcome_value r ≡ number x
-  pub next-is : r.next ≡ next
-
--- an outcome is the value of the tree that is read, if one is, and the position after it
-abbrev pub Tells : List ℕ → Outcome → Reading Expression → Type 0
-Tells bs r x = (tree : Expression) (next : ℕ) → x ≡ read tree next → outcome r ≡ valued (value house_table (lent bs) tree) next
+-- what is told is the value of the tree that is read, if one is, and the position after it
+abbrev pub Tells : List ℕ → Evaluated → Reading Expression → Type 0
+Tells bs r x = (tree : Expression) (next : ℕ) → x ≡ read tree next → evaluated r ≡ valued (value house_table (lent bs) tree) next
 
 -- of the reading at a position, by any number of rounds and before any position
-pub record IsOutcome (ws bs : List ℕ) (at : ℕ) (r : Outcome) : Type 0 where
+pub record IsEvaluated (ws bs : List ℕ) (at : ℕ) (r : Evaluated) : Type 0 where
   pub same : (rounds stop : ℕ) → Tells bs r (expression_in rounds ws (length bs) stop at)
   pub later : at < r.next
 
 -- the same of what follows an operator: two operands
-pub record IsTwo (ws bs : List ℕ) (k at : ℕ) (r : Outcome) : Type 0 where
+pub record IsTwo (ws bs : List ℕ) (k at : ℕ) (r : Evaluated) : Type 0 where
   pub same : (rounds stop : ℕ) → Tells bs r (operands (expression_in rounds ws (length bs) stop) (binary_head (operator_of k)) at)
   pub later : at < r.next
 
 -- and of what follows a load: one
-pub record IsLoaded (ws bs : List ℕ) (at : ℕ) (r : Outcome) : Type 0 where
+pub record IsLoaded (ws bs : List ℕ) (at : ℕ) (r : Evaluated) : Type 0 where
   pub same : (rounds stop : ℕ) → Tells bs r (operands (expression_in rounds ws (length bs) stop) load_head at)
   pub later : at < r.next

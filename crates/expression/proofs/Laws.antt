@@ -18,8 +18,9 @@ use Rattle.semantics.specs.Reading.{Reading, read, refused}
 use Rattle.semantics.specs.ReadNet.{read_expression}
 use Rattle.semantics.proofs.Spans.{refused-read}
 use Rattle.semantics.proofs.Tests.{false_true}
-use Rattle.expression.specs.declared.read.Skipped.{Skipped}
-use Rattle.expression.specs.declared.read.Skipped.TheVariants.{Next, Refused}
+use Rattle.std.specs.Prelude.{Result, Ok, Err}
+use Rattle.semantics.specs.declared.refusal.Refusal.{Refusal}
+use Rattle.semantics.specs.Answer.{number_of, position_of, refusing}
 use Rattle.expression.specs.Skip.{forget, skipped, Ahead}
 use Rattle.expression.proofs.Spelled.{HeadWord, head_of_tree, Spelled, spelled}
 
@@ -126,14 +127,14 @@ module _ (ws : List ℕ) (variables at : ℕ) {e : Expression} {next : ℕ} (x :
 -- ── What is passed over ──
 
 -- a reading that the code has passed over, told by its end
-pub passed-read : {A : Type 0} (x : Reading A) (s : Skipped) {n : ℕ} → skipped s ≡ forget x → s ≡ Next n → (a : A) × (x ≡ read a n)
+pub passed-read : {A : Type 0} (x : Reading A) (s : Result ℕ Refusal) {n : ℕ} → skipped s ≡ forget x → s ≡ Ok n → (a : A) × (x ≡ read a n)
 passed-read (read a k) s {n} e d = let b : read tt n ≡ read tt k = sym (ap skipped d) ∙ e in (a, cc)
 passed-read (refused m q) s {n} e d = refused-read m q tt n (sym e ∙ ap skipped d)
 
-pub passed-refused : {A : Type 0} (x : Reading A) (s : Skipped) {n p : ℕ} → skipped s ≡ forget x → s ≡ Refused n p → x ≡ refused n p
-passed-refused (read a k) s {n} {p} e d = refused-read n p tt k (sym (ap skipped d) ∙ e)
-passed-refused (refused m q) s {n} {p} e d = let b : refused n p ≡ refused m q = sym (ap skipped d) ∙ e in cc
+pub passed-refused : {A : Type 0} (x : Reading A) (s : Result ℕ Refusal) {e : Refusal} → skipped s ≡ forget x → s ≡ Err e → x ≡ refusing e
+passed-refused (read a k) s {e = r} e d = refused-read (number_of r) (position_of r) tt k (sym (ap skipped d) ∙ e)
+passed-refused (refused m q) s {e = r} e d = let b : refused (number_of r) (position_of r) ≡ refused m q = sym (ap skipped d) ∙ e in cc
 
 -- the end of a reading is no refusal
-pub next-refused : {X : Type 0} {next n p : ℕ} → Next next ≡ Refused n p → X
+pub next-refused : {X : Type 0} {next : ℕ} {e : Refusal} → Ok next ≡ Err e → X
 next-refused e = false_true (cc)

@@ -1,7 +1,7 @@
 -- The rules of passing over an expression: where it leads, from its head and from where its operands lead. Each is one arm of the code.
 use mathlib.Core.Path.{◌≡◌, refl, sym, ◌∙◌}
 use mathlib.Core.List.{List}
-use Prim.Native.Nat.{ℕ, ◌-◌, ◌<◌}
+use Prim.Native.Nat.{ℕ, ◌+◌, ◌-◌, ◌<◌}
 use native.Mathlib.Omega.{arith}
 use borrow.Author.Rules.{rules}
 use lib.IntN.{ℤ}
@@ -9,13 +9,13 @@ use Rattle.semantics.specs.Expression.{Operator, Expression, binary}
 use Rattle.semantics.specs.Reading.{Reading, read, refused, then, Reader, give}
 use Rattle.semantics.specs.ReadNet.{expression_in}
 use Rattle.word.specs.Operator.{operator_of}
+use Rattle.std.specs.Prelude.{Result, Ok, Err}
+use Rattle.semantics.specs.declared.refusal.Refusal.{Refusal}
 use Rattle.expression.specs.declared.head.Head.{Head}
-use Rattle.expression.specs.declared.head.Head.TheVariants.{Constant, Variable, Binary, Load, Refused}
-use Rattle.expression.specs.declared.read.Passed.{Passed}
-use Rattle.expression.specs.declared.read.Passed.TheVariants.{To, Refused as Stopped}
+use Rattle.expression.specs.declared.head.Head.TheVariants.{Constant, Variable, Binary, Load}
 use Rattle.expression.specs.Head.{Onward, IsHead}
 use Rattle.expression.specs.Skip.{forget, Passes, IsPassed}
-use Rattle.expression.proofs.Heads.{onward-more, head-onward, headed, load-falls, first-falls}
+use Rattle.expression.proofs.Heads.{onward-more, head-onward, headed, head-falls}
 
 -- ── Readings without what was read ──
 
@@ -32,54 +32,54 @@ forget_both o r x = forget-then x (λ a mid. then (r mid) (λ b next. read (bina
 
 -- ── The rules ──
 
-passes_more : {ws : List ℕ} {at left a l : ℕ} → Onward ws at left a l → (r : Passed) → Passes ws a l r → Passes ws at left r
-passes_more q (To next rest) p = onward-more q p
-passes_more q (Stopped n p) h = tt
+passes_more : {ws : List ℕ} {at left a l : ℕ} → Onward ws at left a l → (r : Result (ℕ × ℕ) Refusal) → Passes ws a l r → Passes ws at left r
+passes_more q (Ok r) p = onward-more q p
+passes_more q (Err e) h = tt
 
-passed-onward : {ws : List ℕ} {variables at left : ℕ} {r s : Passed} → IsPassed ws variables at left r → r ≡ s → Passes ws at left s
+passed-onward : {ws : List ℕ} {variables at left : ℕ} {r s : Result (ℕ × ℕ) Refusal} → IsPassed ws variables at left r → r ≡ s → Passes ws at left s
 passed-onward x e = rw e at x.onward
 
-module _ {ws : List ℕ} {variables at left : ℕ} {t : Head} (x : IsHead ws variables at left t) where
-  pub refused-head : {n p : ℕ} → t ≡ Refused n p → IsPassed ws variables at left (Stopped n p)
+module _ {ws : List ℕ} {variables at left : ℕ} {t : Result Head Refusal} (x : IsHead ws variables at left t) where
+  pub refused-head : {e : Refusal} → t ≡ Err e → IsPassed ws variables at left (Err e)
   refused-head e = record { same = λ rounds stop h s. rw (headed x e rounds stop h s); onward = tt }
 
-  pub constant-head : {z : ℤ} {a l : ℕ} → t ≡ Constant z a l → IsPassed ws variables at left (To a l)
+  pub constant-head : {z : ℤ} → t ≡ Ok (Constant z) → IsPassed ws variables at left (Ok (at + 1, left - 1))
   constant-head e = record { same = λ rounds stop h s. rw (headed x e rounds stop h s); onward = head-onward x e }
 
-  pub variable-head : {n a l : ℕ} → t ≡ Variable n a l → IsPassed ws variables at left (To a l)
-  variable-head e = record { same = λ rounds stop h s. rw (headed x e rounds stop h s); onward = (head-onward x e).1 }
+  pub variable-head : {n : ℕ} → t ≡ Ok (Variable n) → IsPassed ws variables at left (Ok (at + 1, left - 1))
+  variable-head e = record { same = λ rounds stop h s. rw (headed x e rounds stop h s); onward = head-onward x e }
 
-  pub load_operand : {a l : ℕ} {r : Passed} → t ≡ Load a l → IsPassed ws variables a l r → IsPassed ws variables at left r
-  load_operand {a} {l} {r} e y =
-      let q : Onward ws at left a l = head-onward x e in
+  pub load_operand : {r : Result (ℕ × ℕ) Refusal} → t ≡ Ok Load → IsPassed ws variables (at + 1) (left - 1) r → IsPassed ws variables at left r
+  load_operand {r} e y =
+      let q : Onward ws at left (at + 1) (left - 1) = head-onward x e in
       record {
-        same = λ rounds stop h s. rw (headed x e rounds stop h s) (y.same (rounds - 1) stop (omega arith) (omega arith) ∙ sym (forget-map _ (expression_in (rounds - 1) ws variables stop a)));
+        same = λ rounds stop h s. rw (headed x e rounds stop h s) (y.same (rounds - 1) stop (omega arith) (omega arith) ∙ sym (forget-map _ (expression_in (rounds - 1) ws variables stop (at + 1))));
         onward = passes_more q r y.onward;
       }
 
-  module _ {k a l : ℕ} {r : Passed} (e : t ≡ Binary k a l) (y : IsPassed ws variables a l r) where
-    pub first-refused : {n p : ℕ} → r ≡ Stopped n p → IsPassed ws variables at left (Stopped n p)
+  module _ {k : ℕ} {r : Result (ℕ × ℕ) Refusal} (e : t ≡ Ok (Binary k)) (y : IsPassed ws variables (at + 1) (left - 1) r) where
+    pub first-refused : {f : Refusal} → r ≡ Err f → IsPassed ws variables at left (Err f)
     first-refused d =
-        let q : Onward ws at left a l = head-onward x e in
+        let q : Onward ws at left (at + 1) (left - 1) = head-onward x e in
         record {
           same = λ rounds stop h s. rw (headed x e rounds stop h s, forget_both (operator_of k) (expression_in (rounds - 1) ws variables stop), ← y.same (rounds - 1) stop (omega arith) (omega arith), d);
           onward = tt;
         }
 
-    pub second_operand : {b m : ℕ} {s : Passed} → r ≡ To b m → IsPassed ws variables b m s → IsPassed ws variables at left s
-    second_operand {b} {m} {s} d z =
-        let q : Onward ws at left a l = head-onward x e in
-        let p : Onward ws a l b m = passed-onward y d in
+    pub second_operand : {p : ℕ × ℕ} {s : Result (ℕ × ℕ) Refusal} → r ≡ Ok p → IsPassed ws variables p.0 p.1 s → IsPassed ws variables at left s
+    second_operand {p} {s} d z =
+        let q : Onward ws at left (at + 1) (left - 1) = head-onward x e in
+        let o : Onward ws (at + 1) (left - 1) p.0 p.1 = passed-onward y d in
         record {
           same = λ rounds stop h i. rw (headed x e rounds stop h i, forget_both (operator_of k) (expression_in (rounds - 1) ws variables stop), ← y.same (rounds - 1) stop (omega arith) (omega arith), d) (z.same (rounds - 1) stop (omega arith) (omega arith));
-          onward = passes_more (onward-more q p) s z.onward;
+          onward = passes_more (onward-more q o) s z.onward;
         }
 
     -- the second operand has fewer words left; n is the measure
-    pub second-falls : {b m n : ℕ} → r ≡ To b m → left ≡ n → m < n
-    second-falls {b} {m} d i =
-        let q : Onward ws at left a l = head-onward x e in
-        let p : Onward ws a l b m = passed-onward y d in
+    pub second-falls : {p : ℕ × ℕ} {n : ℕ} → r ≡ Ok p → left ≡ n → p.1 < n
+    second-falls {p} d i =
+        let q : Onward ws at left (at + 1) (left - 1) = head-onward x e in
+        let o : Onward ws (at + 1) (left - 1) p.0 p.1 = passed-onward y d in
         omega arith
 
-pub ruleset passing = (rules, refused-head, constant-head, variable-head, load_operand, first-refused, second_operand, load-falls, first-falls, second-falls)
+pub ruleset passing = (rules, refused-head, constant-head, variable-head, load_operand, first-refused, second_operand, head-falls, second-falls)

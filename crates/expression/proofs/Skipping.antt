@@ -10,8 +10,9 @@ use Rattle.semantics.specs.Refusal.{most_expression_words}
 use Rattle.semantics.specs.Word.{kind, payload}
 use Rattle.semantics.specs.Reading.{read, refused}
 use Rattle.semantics.specs.ReadNet.{read_expression}
-use Rattle.expression.specs.declared.read.Passed.{Passed}
-use Rattle.expression.specs.declared.read.Passed.TheVariants.{To, Refused}
+use Rattle.std.specs.Prelude.{Result, Ok, Err}
+use Rattle.semantics.specs.declared.refusal.Refusal.{Refusal}
+use Rattle.semantics.specs.Answer.{refusing}
 use Rattle.expression.specs.Head.{Onward}
 use Rattle.expression.specs.Skip.{forget, passed, Ahead, IsPassed}
 use Rattle.expression.proofs.Heads.{words-end, too_many, constant-read, constant_stray, variable-read, variable_missing}
@@ -19,20 +20,20 @@ use Rattle.expression.proofs.Passing.{refused-head, constant-head, variable-head
 
 -- ── By what is passed ──
 
-module _ {ws : List ℕ} {variables at : ℕ} {r : Passed} (x : IsPassed ws variables at most_expression_words r) where
+module _ {ws : List ℕ} {variables at : ℕ} {r : Result (ℕ × ℕ) Refusal} (x : IsPassed ws variables at most_expression_words r) where
   whole : passed r ≡ forget (read_expression ws variables at)
   unfolding read_expression
   whole = x.same (most_expression_words + 1) (at + most_expression_words) (omega arith) refl
 
-  pub next : {a l : ℕ} → r ≡ To a l → read tt a ≡ forget (read_expression ws variables at)
+  pub next : {p : ℕ × ℕ} → r ≡ Ok p → read tt p.0 ≡ forget (read_expression ws variables at)
   next e = rw e at whole
 
-  pub ahead : {a l : ℕ} → r ≡ To a l → Ahead ws at a
-  ahead {a} {l} e =
-      let q : Onward ws at most_expression_words a l = rw e at x.onward in
+  pub ahead : {p : ℕ × ℕ} → r ≡ Ok p → Ahead ws at p.0
+  ahead {p} e =
+      let q : Onward ws at most_expression_words p.0 p.1 = rw e at x.onward in
       record { later = q.later; short = omega arith; in_words = q.in_words; in_limit = q.in_limit }
 
-  pub stopped : {n p : ℕ} → r ≡ Refused n p → refused n p ≡ forget (read_expression ws variables at)
+  pub stopped : {e : Refusal} → r ≡ Err e → refusing e ≡ forget (read_expression ws variables at)
   stopped e = rw e at whole
 
 pub ruleset skipping = (rules, next, ahead, stopped)

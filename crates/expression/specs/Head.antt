@@ -1,21 +1,26 @@
 -- The first word of an expression, as the code tells it, and what its contracts say.
 -- Rests on semantics/specs/ReadNet and word/specs/Operator.
-use Rattle.std.specs.Prelude.{◌≡◌, List, ℕ, ◌+◌, ◌≤◌, ◌<◌, length}
+use Rattle.std.specs.Prelude.{◌≡◌, List, ℕ, ◌+◌, ◌-◌, ◌≤◌, ◌<◌, length, Result, Ok, Err}
 use Rattle.semantics.specs.Refusal.{most_words}
-use Rattle.semantics.specs.Reading.{Reading, read, refused}
+use Rattle.semantics.specs.declared.refusal.Refusal.{Refusal}
+use Rattle.semantics.specs.Reading.{Reading, read}
+use Rattle.semantics.specs.Answer.{refusing}
 use Rattle.semantics.specs.ReadNet as net
 use Rattle.semantics.specs.ReadNet.{constant_head, variable_head, binary_head, load_head, head_of, head_at}
 use Rattle.word.specs.Operator.{operator_of}
 use Rattle.expression.specs.declared.head.Head.{Head}
-use Rattle.expression.specs.declared.head.Head.TheVariants.{Constant, Variable, Binary, Load, Refused}
+use Rattle.expression.specs.declared.head.Head.TheVariants.{Constant, Variable, Binary, Load}
 
--- the reading of a head, without the words left
-abbrev pub head : Head → Reading net.Head
-head (Constant z next rest) = read (constant_head z) next
-head (Variable n next rest) = read (variable_head n) next
-head (Binary k next rest) = read (binary_head (operator_of k)) next
-head (Load next rest) = read load_head next
-head (Refused n p) = refused n p
+abbrev pub headed : Head → net.Head
+headed (Constant z) = constant_head z
+headed (Variable n) = variable_head n
+headed (Binary k) = binary_head (operator_of k)
+headed Load = load_head
+
+-- the reading of the head at a position
+abbrev pub head : ℕ → Result Head Refusal → Reading net.Head
+head at (Ok t) = read (headed t) (at + 1)
+head at (Err e) = refusing e
 
 -- from a position to a later one in the words, the words left falling by as many as are passed
 pub record Onward (ws : List ℕ) (at left next rest : ℕ) : Type 0 where
@@ -24,20 +29,26 @@ pub record Onward (ws : List ℕ) (at left next rest : ℕ) : Type 0 where
   pub in_words : next ≤ length ws
   pub in_limit : next ≤ most_words
 
--- a head leads onward, and a variable is one that there is
-abbrev pub HeadOnward : List ℕ → ℕ → ℕ → ℕ → Head → Type 0
-HeadOnward ws variables at left (Constant z next rest) = Onward ws at left next rest
-HeadOnward ws variables at left (Variable n next rest) = (n < variables) × Onward ws at left next rest
-HeadOnward ws variables at left (Binary k next rest) = Onward ws at left next rest
-HeadOnward ws variables at left (Load next rest) = Onward ws at left next rest
-HeadOnward ws variables at left (Refused n p) = Unit {0}
+-- a variable is one that there is
+abbrev pub InRange : ℕ → Result Head Refusal → Type 0
+InRange variables (Ok (Variable n)) = n < variables
+InRange variables (Ok (Constant z)) = Unit {0}
+InRange variables (Ok (Binary k)) = Unit {0}
+InRange variables (Ok Load) = Unit {0}
+InRange variables (Err e) = Unit {0}
 
--- the word w as the head at a position, where words are left
-pub record IsWord (w variables at left : ℕ) (r : Head) : Type 0 where
-  pub same : head r ≡ head_of variables w at (at + 1)
-  pub onward : (ws : List ℕ) → at < length ws → HeadOnward ws variables at left r
+-- the word w as the head at a position
+pub record IsWord (w variables at : ℕ) (r : Result Head Refusal) : Type 0 where
+  pub same : head at r ≡ head_of variables w at (at + 1)
+  pub in_range : InRange variables r
+
+-- what follows a head is one word onward
+abbrev pub HeadOnward : List ℕ → ℕ → ℕ → Result Head Refusal → Type 0
+HeadOnward ws at left (Ok t) = Onward ws at left (at + 1) (left - 1)
+HeadOnward ws at left (Err e) = Unit {0}
 
 -- the head at a position; the sixteenth word would stand where the words left end
-pub record IsHead (ws : List ℕ) (variables at left : ℕ) (r : Head) : Type 0 where
-  pub same : head r ≡ head_at ws variables (at + left) at
-  pub onward : HeadOnward ws variables at left r
+pub record IsHead (ws : List ℕ) (variables at left : ℕ) (r : Result Head Refusal) : Type 0 where
+  pub same : head at r ≡ head_at ws variables (at + left) at
+  pub in_range : InRange variables r
+  pub onward : HeadOnward ws at left r

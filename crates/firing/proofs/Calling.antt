@@ -1,39 +1,38 @@
 -- The rules of the call fire: what the situation and the binding say; where both are accepted, they are what firing starts from.
-use mathlib.Core.Path.{◌≡◌, ap}
+use mathlib.Core.Path.{◌≡◌, refl, ap}
 use Prim.Native.Nat.{ℕ, ◌+◌, ◌<◌}
 use mathlib.Core.List.{List, [], ◌∷◌}
 use lib.ListN.{length, take, drop}
-use Rattle.semantics.specs.declared.Fired.{Fired}
-use Rattle.semantics.specs.declared.Fired.TheVariants.{Refused as FireRefused}
+use Rattle.std.specs.Prelude.{Result, Ok, Err}
+use Rattle.semantics.specs.declared.refusal.Refusal.{Refusal}
+use Rattle.semantics.specs.Answer.{refusing}
 use Rattle.semantics.specs.Lists.{Every}
 use Rattle.semantics.specs.Net.{Place, Arc}
-use Rattle.semantics.specs.Calls.{fire_call}
+use Rattle.semantics.specs.Calls.{situation, fire_call}
 use Rattle.semantics.proofs.Accepted.{SoundArc, transition_sound}
-use Rattle.expression.specs.declared.read.Skipped.{Skipped}
-use Rattle.expression.specs.declared.read.Skipped.TheVariants.{Next, Refused}
 use Rattle.expression.specs.Skip.{forget, skipped}
 use Rattle.net.specs.Skim.{Outline}
 use Rattle.net.specs.Places.{ranges_from}
 use Rattle.marking.specs.Marked.{binding_read}
-use Rattle.situations.specs.Situation.{Index, outlined, Prepared, IsSituation}
+use Rattle.situations.specs.Situation.{Index, outlined, Prepared}
 use Rattle.testing.proofs.Testing.{unbound_refused, bound-read, bound-length, bound-lent}
 use Rattle.steps.specs.Steps.{fire_end}
 use Rattle.firing.specs.Fire.{FireableAt, IsFiredAt}
 
-pub fire-refused : (ws : List ℕ) (t : ℕ) (ms bs buffer : List ℕ) {s : Index} {n p : ℕ} → IsSituation ws t ms s → s.end ≡ Refused n p → fire_end (FireRefused n p) buffer ≡ fire_call ws t ms bs buffer
+pub fire-refused : (ws : List ℕ) (t : ℕ) (ms bs buffer : List ℕ) (e : Refusal) → situation ws t ms ≡ refusing e → fire_end (Err e) buffer ≡ fire_call ws t ms bs buffer
 unfolding fire_call
-fire-refused ws t ms bs buffer {n = n} {p = p} i e = rw (i.refuses n p e)
+fire-refused ws t ms bs buffer e d = rw d refl
 
 placed-arcs : (places : List Place) (v : ℕ) (as' : List Arc) → Every (SoundArc places v) as' → Every (λ (a : Arc). a.place < length places) as'
 placed-arcs places v [] e = tt
 placed-arcs places v (a ∷ as') e = (e.0.there, placed-arcs places v as' e.1)
 
-module _ {ws : List ℕ} {t : ℕ} {ms : List ℕ} {s : Index} (p : Prepared ws t ms s) (bs : List ℕ) (r : Skipped) (x : skipped r ≡ forget (binding_read (ranges_from ws s.transition.variables (s.position + 1)) bs)) where
-  pub fire_unbound : (buffer : List ℕ) {n q : ℕ} → r ≡ Refused n q → fire_end (FireRefused n q) buffer ≡ fire_call ws t ms bs buffer
+module _ {ws : List ℕ} {t : ℕ} {ms : List ℕ} {s : Index} (p : Prepared ws t ms s) (bs : List ℕ) (r : Result ℕ Refusal) (x : skipped r ≡ forget (binding_read (ranges_from ws s.transition.variables (s.position + 1)) bs)) where
+  pub fire_unbound : (buffer : List ℕ) {e : Refusal} → r ≡ Err e → fire_end (Err e) buffer ≡ fire_call ws t ms bs buffer
   unfolding fire_call
-  fire_unbound buffer e = rw (p.same, unbound_refused p bs r x e)
+  fire_unbound buffer e = rw (p.same, unbound_refused p bs r x e) refl
 
-  module _ {next : ℕ} (e : r ≡ Next next) where
+  module _ {next : ℕ} (e : r ≡ Ok next) where
     fireable : FireableAt ws (take s.places s.places_at) (outlined s).guard (outlined s).inputs (outlined s).outputs ms s.begins bs
     fireable = record {
       net = p.net;
@@ -60,6 +59,6 @@ module _ {ws : List ℕ} {t : ℕ} {ms : List ℕ} {s : Index} (p : Prepared ws 
       pub fireable-lent : FireableAt ws (take s.places s.places_at) (take g (drop 16 s.own)) (outlined s).inputs (take o (drop 8 s.own)) ms s.begins bs
       fireable-lent = rw (a, b) fireable
 
-      pub fire_answers : {f : Fired} {buffer after begins' : List ℕ} → IsFiredAt ws (take s.places s.places_at) (take g (drop 16 s.own)) (outlined s).inputs (take o (drop 8 s.own)) ms s.begins bs buffer f after begins' → fire_end f after ≡ fire_call ws t ms bs buffer
+      pub fire_answers : {f : Result ℕ Refusal} {buffer after begins' : List ℕ} → IsFiredAt ws (take s.places s.places_at) (take g (drop 16 s.own)) (outlined s).inputs (take o (drop 8 s.own)) ms s.begins bs buffer f after begins' → fire_end f after ≡ fire_call ws t ms bs buffer
       unfolding fire_call fireable
       fire_answers h = rw (p.same, (bound-read p bs r x e).1) ((rw (a, b) at h).fired fireable).end

@@ -10,9 +10,10 @@ use native.Mathlib.Omega.{arith}
 use borrow.Author.Tests.{le-leb, leb-true, not-true, not-false}
 use lib.IntN.{ℤ}
 use lib.ListN.{length, take}
-use Rattle.semantics.specs.declared.Fired.{Fired}
-use Rattle.semantics.specs.declared.Fired.TheVariants.{Refused as FireRefused}
-use Rattle.semantics.specs.Refusal.{most_count, not_enabled, bad_output, over_count}
+use Rattle.std.specs.Prelude.{Result, Err}
+use Rattle.semantics.specs.declared.refusal.Refusal.{Refusal}
+use Rattle.semantics.specs.declared.refusal.Refusal.TheVariants.{NotEnabled, BadOutput}
+use Rattle.semantics.specs.Refusal.{most_count, over_count}
 use Rattle.semantics.specs.Lists.{Every, every, select}
 use Rattle.semantics.specs.Expression.{house_table, bound, given}
 use Rattle.semantics.specs.Reading.{read}
@@ -119,7 +120,7 @@ module _ {ws ps gs is os ms begins bs : List ℕ} (q : FireableAt ws ps gs is os
     enabled-is : r ≡ is_enabled house_table q.transition (counts_of q.entries) q.binding
     enabled-is = enabled-told ws bs q.net.places q.at q.transition q.after q.there q.many ps q.placed q.guard_at_lem q.inputs_at q.entries q.end q.marked q.begun q.binding q.values i
 
-    pub fired_13 : (buffer : List ℕ) → not r ≡ true → FiredTo q.net buffer begins (FireRefused not_enabled 0) buffer begins (fire house_table q.net (length buffer) q.transition (counts_of q.entries) q.binding)
+    pub fired_13 : (buffer : List ℕ) → not r ≡ true → FiredTo q.net buffer begins (Err NotEnabled) buffer begins (fire house_table q.net (length buffer) q.transition (counts_of q.entries) q.binding)
     unfolding fire occur
     fired_13 buffer d =
         let e : is_enabled house_table q.transition (counts_of q.entries) q.binding ≡ false = sym enabled-is ∙ not-true r d in
@@ -168,15 +169,15 @@ module _ {ws ps gs is os ms begins bs : List ℕ} (q : FireableAt ws ps gs is os
         every-fits [] = refl
         every-fits (f ∷ fs) = let e : fits_at ws ps f ≡ fits q.net f = rw q.placed in rw (e, every-fits fs)
 
-        pub fired_14 : (buffer : List ℕ) → not outs.some ≡ true → FiredTo q.net buffer begins (FireRefused bad_output 0) buffer begins (fire house_table q.net (length buffer) q.transition (counts_of q.entries) q.binding)
+        pub fired_14 : (buffer : List ℕ) → not outs.some ≡ true → FiredTo q.net buffer begins (Err BadOutput) buffer begins (fire house_table q.net (length buffer) q.transition (counts_of q.entries) q.binding)
         unfolding fire occur
         fired_14 buffer d = rw (enabled, taken.told) (by (flows house_table (bound q.binding) q.transition.outputs) (sym (ap (λ (s : Bool). given s (key_flows ws ps (take outs.n okeys) (take outs.n oamounts))) (not-true outs.some d)) ∙ made-is))
           where
-            by : (x : Option (List Flow)) → none ≡ gathered_by ws ps x → FiredTo q.net buffer begins (FireRefused bad_output 0) buffer begins (roomed q.net (length buffer) (occur_by q.net (counts_of q.entries) (some taken.flows-are) x))
+            by : (x : Option (List Flow)) → none ≡ gathered_by ws ps x → FiredTo q.net buffer begins (Err BadOutput) buffer begins (roomed q.net (length buffer) (occur_by q.net (counts_of q.entries) (some taken.flows-are) x))
             by none e = record { end = refl; begun = refl }
             by (some fs) e = unfit (either (every (fits q.net) fs))
               where
-                unfit : (every (fits q.net) fs ≡ true) ⊎ (every (fits q.net) fs ≡ false) → FiredTo q.net buffer begins (FireRefused bad_output 0) buffer begins (roomed q.net (length buffer) (occur_by q.net (counts_of q.entries) (some taken.flows-are) (some fs)))
+                unfit : (every (fits q.net) fs ≡ true) ⊎ (every (fits q.net) fs ≡ false) → FiredTo q.net buffer begins (Err BadOutput) buffer begins (roomed q.net (length buffer) (occur_by q.net (counts_of q.entries) (some taken.flows-are) (some fs)))
                 unfit (inl h) = none-some (e ∙ ap (λ (s : Bool). given s (select moving fs)) (every-fits fs ∙ h))
                 unfit (inr h) = rw h (record { end = refl; begun = refl })
 
@@ -242,6 +243,6 @@ module _ {ws ps gs is os ms begins bs : List ℕ} (q : FireableAt ws ps gs is os
           pub fired_stepping : Moves ws ps ik ia ok oa begins → Stepping ws ps ik ia ok oa ms begins
           fired_stepping m = record { moves = m; net = q.net; entries = q.entries; placed = q.placed; sees = sees; covered = taken-covered; proper = new-proper }
 
-          pub fired-step : Moves ws ps ik ia ok oa begins → {buffer : List ℕ} {r : Fired} {rest begins' : List ℕ} → IsStep ws ps ik ia ok oa ms begins buffer r rest begins' → FiredTo q.net buffer begins r rest begins' (fire house_table q.net (length buffer) q.transition (counts_of q.entries) q.binding)
+          pub fired-step : Moves ws ps ik ia ok oa begins → {buffer : List ℕ} {r : Result ℕ Refusal} {rest begins' : List ℕ} → IsStep ws ps ik ia ok oa ms begins buffer r rest begins' → FiredTo q.net buffer begins r rest begins' (fire house_table q.net (length buffer) q.transition (counts_of q.entries) q.binding)
           unfolding fire fired_stepping
           fired-step m {buffer} {r} {rest} {begins'} x = subst (λ (f : Firing). FiredTo q.net buffer begins r rest begins' (roomed q.net (length buffer) f)) (sym occurs) (x.fired (fired_stepping m))

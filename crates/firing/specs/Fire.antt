@@ -1,7 +1,7 @@
 -- What firing starts from, and what its answers say.
 -- Rests on semantics/specs/Calls, marking/specs/Marked, net/specs/Places, gathering/specs/Gather, occurrence/specs/Answers and changes/specs/Changes.
-use Rattle.std.specs.Prelude.{◌≡◌, ℕ, ◌<◌, true, List, ℤ, length}
-use Rattle.semantics.specs.declared.Fired.{Fired}
+use Rattle.std.specs.Prelude.{◌≡◌, ℕ, ◌<◌, true, List, ℤ, length, Result}
+use Rattle.semantics.specs.declared.refusal.Refusal.{Refusal}
 use Rattle.semantics.specs.Expression.{house_table, bound}
 use Rattle.semantics.specs.Reading.{read}
 use Rattle.semantics.specs.Net.{Arc, Transition, Net}
@@ -38,7 +38,7 @@ pub record FireableAt (ws ps gs is os ms begins bs : List ℕ) : Type 0 where
   pub values : lent bs ≡ bound binding
 
 -- the answer, the buffer after it, and where the places of its marking begin
-pub record IsFiredAt (ws ps gs is os ms begins bs buffer : List ℕ) (r : Fired) (after begins' : List ℕ) : Type 0 where
+pub record IsFiredAt (ws ps gs is os ms begins bs buffer : List ℕ) (r : Result ℕ Refusal) (after begins' : List ℕ) : Type 0 where
   pub fired : (q : FireableAt ws ps gs is os ms begins bs) → FiredTo q.net buffer begins r after begins' (fire house_table q.net (length buffer) q.transition (counts_of q.entries) q.binding)
 
 -- ── A binding that is known to be enabled ──
@@ -50,7 +50,7 @@ pub record EnabledAt (ws ps is os ms begins bs : List ℕ) : Type 0 where
   pub enabled : IsEnabledAt ws ps conjuncts is ms begins bs true
 
 -- what fire answers, for all conjuncts that the binding is enabled by
-pub record IsFiredEnabled (ws ps is os ms begins bs buffer : List ℕ) (r : Fired) (after begins' : List ℕ) : Type 0 where
+pub record IsFiredEnabled (ws ps is os ms begins bs buffer : List ℕ) (r : Result ℕ Refusal) (after begins' : List ℕ) : Type 0 where
   pub fired : (gs : List ℕ) → IsEnabledAt ws ps gs is ms begins bs true → IsFiredAt ws ps gs is os ms begins bs buffer r after begins'
 
 -- what it takes are the first n keys and amounts, and the input arcs are not looked at again
@@ -61,5 +61,5 @@ pub record TakenAt (ws ps os ms begins bs keys amounts : List ℕ) (n : ℕ) : T
   pub gathered : IsGathered ws ps bs inputs (record { some = true; arcs = arcs; n = n }) keys amounts
 
 -- the same for all input arcs that take them
-pub record IsFiredTaken (ws ps os ms begins bs keys amounts : List ℕ) (n : ℕ) (buffer : List ℕ) (r : Fired) (after begins' : List ℕ) : Type 0 where
+pub record IsFiredTaken (ws ps os ms begins bs keys amounts : List ℕ) (n : ℕ) (buffer : List ℕ) (r : Result ℕ Refusal) (after begins' : List ℕ) : Type 0 where
   pub fired : (is : List ℕ) (arcs : ℕ) → IsGathered ws ps bs is (record { some = true; arcs = arcs; n = n }) keys amounts → IsFiredEnabled ws ps is os ms begins bs buffer r after begins'

@@ -5,11 +5,10 @@ ghost use Rattle.net.specs.Places.{PlacesFit};
 ghost use Rattle.steps.specs.Steps.{fire_end};
 ghost use Rattle.firing.specs.Fire.{FireableAt, IsFiredAt, EnabledAt, IsFiredEnabled, TakenAt, IsFiredTaken};
 
-use expression::read::Skipped;
 use gathering::gather::gather;
 use marking::binding::read_binding;
 use occurrence::enabled::taken;
-use semantics::Fired;
+use semantics::refusal::Refusal;
 use situations::situation::prepare;
 use steps::step::fire_keys;
 
@@ -25,7 +24,7 @@ fn fire_taken(
     begins: &mut [usize],
     binding: &[u32],
     next: &mut [u32],
-) -> Fired
+) -> Result<usize, Refusal>
     requires places_fit { PlacesFit net.now places.now }
     requires begins_len { length begins.old ≡ 65 }
     requires outputs_len_bound { length outputs.now ≤ 8 }
@@ -45,7 +44,7 @@ fn fire_taken(
         &mut out_amounts,
     );
     if !outs.some {
-        return Fired::Refused(14, 0);
+        return Err(Refusal::BadOutput);
     }
     let m = outs.n;
     fire_keys(
@@ -72,7 +71,7 @@ fn fire_arcs(
     begins: &mut [usize],
     binding: &[u32],
     next: &mut [u32],
-) -> Fired
+) -> Result<usize, Refusal>
     requires places_fit { PlacesFit net.now places.now }
     requires begins_len { length begins.old ≡ 65 }
     requires inputs_len_bound { (length inputs.now ≤ 8) × (length outputs.now ≤ 8) }
@@ -93,7 +92,7 @@ fn fire_arcs(
         &mut amounts,
     );
     if !ins.some {
-        return Fired::Refused(13, 0);
+        return Err(Refusal::NotEnabled);
     }
     fire_taken(
         net,
@@ -119,7 +118,7 @@ pub fn fire_enabled(
     begins: &mut [usize],
     binding: &[u32],
     next: &mut [u32],
-) -> Fired
+) -> Result<usize, Refusal>
     requires places_fit { PlacesFit net.now places.now }
     requires begins_len { length begins.old ≡ 65 }
     requires inputs_len_bound { (length inputs.now ≤ 8) × (length outputs.now ≤ 8) }
@@ -150,7 +149,7 @@ pub fn fire(
     marking: &[u32],
     binding: &[u32],
     next: &mut [u32],
-) -> Fired
+) -> Result<usize, Refusal>
     ensures { fire_end result next.new ≡ fire_call net.now transition marking.now binding.now next.old }
 {
     let mut places_at = [0usize; 64];
@@ -163,33 +162,19 @@ pub fn fire(
         &mut places_at,
         &mut own,
         &mut begins,
-    );
-    let end = s.end;
-    match end {
-        Skipped::Refused(n, p) => Fired::Refused(n, p),
-        Skipped::Next(_) => {
-            let t = s.transition;
-            match read_binding(net, s.position + 1, t.variables, binding) {
-                Skipped::Refused(m, q) => Fired::Refused(m, q),
-                Skipped::Next(_) => {
-                    let places = s.places;
-                    let conjuncts = t.conjuncts;
-                    let inputs = t.inputs;
-                    let outputs = t.outputs;
-                    let own = &own[..];
-                    fire_arcs(
-                        net,
-                        &places_at[..places],
-                        &own[16..16 + conjuncts],
-                        &own[..inputs],
-                        &own[8..8 + outputs],
-                        marking,
-                        &mut begins,
-                        binding,
-                        next,
-                    )
-                }
-            }
-        }
-    }
+    )?;
+    let t = s.transition;
+    read_binding(net, s.position + 1, t.variables, binding)?;
+    let own = &own[..];
+    fire_arcs(
+        net,
+        &places_at[..s.places],
+        &own[16..16 + t.conjuncts],
+        &own[..t.inputs],
+        &own[8..8 + t.outputs],
+        marking,
+        &mut begins,
+        binding,
+        next,
+    )
 }

@@ -1,6 +1,7 @@
 -- The rules of gathering what arcs move: what the first arcs move is known, and what is still ahead comes behind it. An arc that moves nothing
 -- adds none; one that has no flow, or moves a colour that its place cannot have, leaves none.
 use mathlib.Core.Path.{◌≡◌, refl, sym, ap, ◌∙◌}
+use mathlib.Core.Logic.{◌⊎◌, inl, inr}
 use Prim.Native.Nat.{ℕ, ◌+◌, ◌≤◌, ◌<◌}
 use mathlib.Core.Bool.{Bool, true, false, ◌&&◌}
 use mathlib.Core.List.{List, [], ◌∷◌, ◌++◌, append-nil}
@@ -190,15 +191,12 @@ module _ {ws ps bs ats : List ℕ} {kept : ℕ} {keys₀ amounts₀ : List ℕ} 
         step : gathered_by ws ps (flows_at ws ps bs (drop i ats)) ≡ gathered_by ws ps (bind (flow_at ws ps bs (get_or ats i 0)) (λ f. bind (flows_at ws ps bs (drop (i + 1) ats)) (λ fs. some (f ∷ fs))))
         step = rw (drop-cons ats i 0 h, add-one i)
 
-    pub gathering_nothing : length ats ≤ 8 → r ≡ Nothing → IsGathered ws ps bs ats (record { some = false; arcs = i; n = n }) keys amounts
+    pub gathering_stop : length ats ≤ 8 → (r ≡ Outside) ⊎ (r ≡ Nothing) → IsGathered ws ps bs ats (record { some = false; arcs = i; n = n }) keys amounts
     unfolding bind
-    gathering_nothing few e = let s : flow_at ws ps bs (get_or ats i 0) ≡ none = rw e at x.says in stopped few (rw s)
-
-    pub gathering_outside : length ats ≤ 8 → r ≡ Outside → IsGathered ws ps bs ats (record { some = false; arcs = i; n = n }) keys amounts
-    unfolding bind
-    gathering_outside few e =
+    gathering_stop few (inl e) =
         let s : Says ws ps (flow_at ws ps bs (get_or ats i 0)) Outside = rw e at x.says in
         stopped few (rw s.1 (first-none ws ps (flows_at ws ps bs (drop (i + 1) ats)) s.0 s.2))
+    gathering_stop few (inr e) = let s : flow_at ws ps bs (get_or ats i 0) ≡ none = rw e at x.says in stopped few (rw s)
 
     pub gathering_idle : r ≡ Idle → Gathering ws ps bs ats kept keys₀ amounts₀ (i + 1) n keys amounts
     unfolding bind every select
@@ -232,4 +230,4 @@ module _ {ws ps bs ats : List ℕ} {kept : ℕ} {keys₀ amounts₀ : List ℕ} 
           keeps = record { keys_kept = take-set-le kept keys n k b ∙ a.keeps.keys_kept; amounts_kept = take-set-le kept amounts n m b ∙ a.keeps.amounts_kept; keys_long = length-set keys n k ∙ a.keeps.keys_long; amounts_long = length-set amounts n m ∙ a.keeps.amounts_long };
         }
 
-pub ruleset gathering = (rules, arc-there, gathering_start, gathering_turn, gathering_idle, gathering_outside, gathering_nothing, gathering_end)
+pub ruleset gathering = (rules, arc-there, gathering_start, gathering_turn, gathering_idle, gathering_stop, gathering_end)

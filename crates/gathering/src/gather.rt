@@ -8,6 +8,7 @@ ghost use Rattle.gathering.specs.Gather.{Known, IsGathered, Keeps};
 use arcs::flow::{Moved, move_at};
 
 // How many arcs were gone through and how many keys they left; not all of them where the next one has no flow, or moves a colour that its place cannot have.
+// No Option, since both numbers count there too.
 #[derive(Clone, Copy)]
 pub struct Gathered {
     pub some: bool,
@@ -36,38 +37,27 @@ pub fn gather(
     ensures keeps { Keeps kept keys.old amounts.old keys.new amounts.new }
 {
     let mut n = kept;
-    let mut i = start;
-    while i < ats.len() {
+    for i in start..ats.len() {
         match move_at(net, places, binding, ats[i]) {
             Moved::Tokens(key, amount) => {
                 keys[n] = key;
                 amounts[n] = amount;
                 n += 1;
-                i += 1;
             }
-            Moved::Idle => {
-                i += 1;
-            }
-            Moved::Outside => {
+            Moved::Idle => {}
+            Moved::Outside | Moved::Nothing => {
                 return Gathered {
                     some: false,
                     arcs: i,
-                    n: n,
-                };
-            }
-            Moved::Nothing => {
-                return Gathered {
-                    some: false,
-                    arcs: i,
-                    n: n,
+                    n,
                 };
             }
         }
     }
     Gathered {
         some: true,
-        arcs: i,
-        n: n,
+        arcs: ats.len(),
+        n,
     }
 }
 

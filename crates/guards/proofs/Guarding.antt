@@ -1,10 +1,10 @@
--- The rules of a conjunct and of the loop over a guard. A conjunct: one rule for each arm of the code, its sides standing one after the other. The loop: the
+-- The rules of a conjunct and of the loop over a guard. A conjunct: its sides stand one after the other. The loop: the
 -- conjuncts ahead hold just where all did at first.
 use mathlib.Core.Path.{◌≡◌, refl}
 use Prim.Native.Nat.{ℕ, ◌+◌, ◌≤◌, ◌<◌}
 use mathlib.Core.Bool.{Bool, true, false, ◌&&◌}
 use mathlib.Core.List.{List}
-use mathlib.Core.Option.{some}
+use mathlib.Core.Option.{Option}
 use native.Mathlib.Numerals.{add-one}
 use native.Mathlib.Omega.{arith}
 use borrow.Author.Rules.{rules}
@@ -18,16 +18,14 @@ use Rattle.semantics.specs.Word.{payload}
 use Rattle.semantics.specs.Expression.{house_table, value}
 use Rattle.semantics.specs.Reading.{read}
 use Rattle.semantics.specs.ReadNet.{read_expression, relation_of, read_conjunct}
-use Rattle.semantics.specs.Enabling.{related, holds}
+use Rattle.semantics.specs.Enabling.{compared, holds}
 use Rattle.semantics.proofs.Members.{every-number}
 use Rattle.expression.specs.Standing.{HasExpression}
-use Rattle.evaluation.specs.declared.evaluate.Evaluated.{Evaluated}
-use Rattle.evaluation.specs.declared.evaluate.Evaluated.TheVariants.{Value, NoValue}
-use Rattle.evaluation.specs.Evaluate.{lent, evaluated, evaluated_from}
+use Rattle.evaluation.specs.Evaluate.{lent, valued, evaluated_from}
 use Rattle.net.specs.Standing.{HasConjunct}
 use Rattle.net.proofs.Standing.{sides, left-stands, right-stands, left-inside}
 use Rattle.guards.specs.Guard.{conjunct_holds, guard_at}
-use Rattle.evaluation.proofs.Answers.{read-value, read_no_value}
+use Rattle.evaluation.proofs.Answers.{read-value}
 
 -- ── A conjunct ──
 
@@ -38,32 +36,23 @@ module _ (ws bs : List ℕ) (at : ℕ) (h : HasConjunct ws (length bs) at) where
   pub left-fits : Fits w64 (at + 1)
   left-fits = let l = (left-inside h).1 in record { fits = omega arith }
 
-  module _ {r : Evaluated} (e : evaluated r ≡ evaluated_from (lent bs) (read_expression ws (length bs) (at + 1))) where
-    pub left-none : {p : ℕ} → r ≡ NoValue p → false ≡ conjunct_holds (lent bs) (read_conjunct ws (length bs) at)
-    unfolding holds
-    left-none d = rw (h.reads, (read_no_value ws (length bs) (at + 1) (sides h).left bs refl r e d).0)
+  module _ {x : Option ℤ} {mid : ℕ} (e : valued x mid ≡ evaluated_from (lent bs) (read_expression ws (length bs) (at + 1))) where
+    left-value : (value house_table (lent bs) h.conjunct.left ≡ x) × (mid ≡ (sides h).mid)
+    left-value = read-value ws (length bs) (at + 1) (sides h).left bs refl e
 
-    module _ {x : ℤ} {mid : ℕ} (d : r ≡ Value x mid) where
-      left-value : (value house_table (lent bs) h.conjunct.left ≡ some x) × (mid ≡ (sides h).mid)
-      left-value = read-value ws (length bs) (at + 1) (sides h).left bs refl r e d
+    -- the right side stands where the left one ends
+    pub right_there : HasExpression ws (length bs) mid
+    right_there = rw left-value.1 (right-stands h)
 
-      -- the right side stands where the left one ends
-      pub right_there : HasExpression ws (length bs) mid
-      right_there = rw left-value.1 (right-stands h)
+    right : read_expression ws (length bs) mid ≡ read h.conjunct.right (sides h).next
+    right = rw left-value.1 (sides h).right
 
-      right : read_expression ws (length bs) mid ≡ read h.conjunct.right (sides h).next
-      right = rw left-value.1 (sides h).right
+    module _ {y : Option ℤ} {last : ℕ} (f : valued y last ≡ evaluated_from (lent bs) (read_expression ws (length bs) mid)) where
+      pub both_told : {k : ℕ} {b : Bool} → k ≡ payload (get_or ws at 0) → b ≡ compared (relation_of k) x y → b ≡ conjunct_holds (lent bs) (read_conjunct ws (length bs) at)
+      unfolding holds
+      both_told k g = rw (h.reads, left-value.0, (read-value ws (length bs) mid right bs refl f).0, (sides h).relation, ← k) g
 
-      module _ {q : Evaluated} (f : evaluated q ≡ evaluated_from (lent bs) (read_expression ws (length bs) mid)) where
-        pub right-none : {p : ℕ} → q ≡ NoValue p → false ≡ conjunct_holds (lent bs) (read_conjunct ws (length bs) at)
-        unfolding holds
-        right-none i = rw (h.reads, left-value.0, (read_no_value ws (length bs) mid right bs refl q f i).0)
-
-        pub both_values : {y x' y' : ℤ} {p k : ℕ} {b : Bool} → q ≡ Value y p → k ≡ payload (get_or ws at 0) → b ≡ related (relation_of k) x' y' → x' ≡ x → y' ≡ y → b ≡ conjunct_holds (lent bs) (read_conjunct ws (length bs) at)
-        unfolding holds
-        both_values i k g m n = rw (h.reads, left-value.0, (read-value ws (length bs) mid right bs refl q f i).0, (sides h).relation, ← k, ← m, ← n) g
-
-pub ruleset conjuncts = (rules, conjunct-inside, left-fits, left-stands, left-none, right_there, right-none, both_values)
+pub ruleset conjuncts = (rules, conjunct-inside, left-fits, left-stands, right_there, both_told)
 
 -- ── A guard ──
 
@@ -94,3 +83,5 @@ module _ {ws bs ats : List ℕ} {i : ℕ} (g : Guarding ws bs ats i) where
 
     pub guarding_stop : b ≡ false → false ≡ guard_at ws bs ats
     guarding_stop e = rw e at one_ahead
+
+pub ruleset guarding = (rules, conjunct-there, guarding_start, guarding_turn, guarding_stop, guarding_end)

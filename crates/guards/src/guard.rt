@@ -6,8 +6,8 @@ ghost use Rattle.net.specs.Standing.{HasConjunct};
 ghost use Rattle.evaluation.specs.Evaluate.{lent};
 ghost use Rattle.guards.specs.Guard.{conjunct_holds, guard_at};
 
-use evaluation::evaluate::{Evaluated, evaluate};
-use numbers::number::related;
+use evaluation::evaluate::evaluate;
+use numbers::number::compared;
 use word::fields::payload;
 
 // Whether the conjunct that stands at a position holds: both sides have values, and these are related.
@@ -16,13 +16,9 @@ pub fn holds_at(net: &[u32], binding: &[u32], at: usize) -> bool
     ensures { result ≡ conjunct_holds (lent binding.now) (read_conjunct net.now (length binding.now) at) }
 {
     let relation = payload(net[at]);
-    match evaluate(net, binding, at + 1) {
-        Evaluated::Value(x, mid) => match evaluate(net, binding, mid) {
-            Evaluated::Value(y, _) => related(relation, x, y),
-            Evaluated::NoValue(_) => false,
-        },
-        Evaluated::NoValue(_) => false,
-    }
+    let left = evaluate(net, binding, at + 1);
+    let right = evaluate(net, binding, left.next);
+    compared(relation, left.value, right.value)
 }
 
 // Whether the conjuncts that stand at these positions all hold.
@@ -30,12 +26,10 @@ pub fn guard_holds(net: &[u32], binding: &[u32], ats: &[usize]) -> bool
     requires { Every (HasConjunct net.now (length binding.now)) ats.now }
     ensures { result ≡ guard_at net.now binding.now ats.now }
 {
-    let mut i = 0;
-    while i < ats.len() {
-        if !holds_at(net, binding, ats[i]) {
+    for at in ats {
+        if !holds_at(net, binding, *at) {
             return false;
         }
-        i += 1;
     }
     true
 }
@@ -45,8 +39,5 @@ pub fn guard_passes(net: &[u32], binding: &[u32], ats: &[usize]) -> bool
     requires { Every (HasConjunct net.now (length binding.now)) ats.now }
     ensures { result ≡ guard_at net.now binding.now ats.now }
 {
-    if ats.len() == 0 {
-        return true;
-    }
-    guard_holds(net, binding, ats)
+    ats.is_empty() || guard_holds(net, binding, ats)
 }

@@ -1,12 +1,12 @@
 -- A word taken from a net: the test that it passes by itself, by the code of its kind, and what the code answers. Rests on semantics.
-use Rattle.std.specs.Prelude.{◌≡◌, ℕ, ◌+◌, ◌<◌, Bool, true, cond, ◌&&◌, List, leb, eqb, length}
+use Rattle.std.specs.Prelude.{◌≡◌, ℕ, ◌+◌, ◌<◌, Bool, true, cond, Result, Ok, Err, ◌&&◌, List, leb, eqb, length}
 use Rattle.std.specs.Int.Signed.{le_z}
 use Rattle.semantics.specs.Refusal.{most_words}
 use Rattle.semantics.specs.Word.{bits, only, between, signed}
-use Rattle.semantics.specs.Reading.{Reading, read, refused, word}
+use Rattle.semantics.specs.Reading.{Reading, read, word}
 use Rattle.semantics.specs.ReadNet.{net_word, transition_word}
-use Rattle.kinds.specs.declared.take.Taken.{Taken}
-use Rattle.kinds.specs.declared.take.Taken.TheVariants.{Word, Refused as TakeRefused}
+use Rattle.semantics.specs.declared.refusal.Refusal.{Refusal}
+use Rattle.semantics.specs.Answer.{refusing}
 
 -- "low ≤ high"
 abbrev pub range_word : ℕ → Bool
@@ -23,9 +23,9 @@ fits_kind k p =
     (cond (eqb k 0xA) (only 10 p && leb (bits 8 9 p) 2) true)))))
 
 -- the word taken at a position
-abbrev pub taken : ℕ → Taken → Reading ℕ
-taken at (Word p) = read p (at + 1)
-taken at (TakeRefused n q) = refused n q
+abbrev pub taken : ℕ → Result ℕ Refusal → Reading ℕ
+taken at (Ok p) = read p (at + 1)
+taken at (Err e) = refusing e
 
 -- a word that was taken exists and passes its test
 pub record Exists (ws : List ℕ) (at k p : ℕ) : Type 0 where
@@ -33,10 +33,10 @@ pub record Exists (ws : List ℕ) (at k p : ℕ) : Type 0 where
   pub in_limit : at < most_words
   pub fits : fits_kind k p ≡ true
 
-abbrev pub Takes : List ℕ → ℕ → ℕ → Taken → Type 0
-Takes ws at k (Word p) = Exists ws at k p
-Takes ws at k (TakeRefused n q) = Unit {0}
+abbrev pub Takes : List ℕ → ℕ → ℕ → Result ℕ Refusal → Type 0
+Takes ws at k (Ok p) = Exists ws at k p
+Takes ws at k (Err e) = Unit {0}
 
-pub record IsTaken (ws : List ℕ) (at k : ℕ) (r : Taken) : Type 0 where
+pub record IsTaken (ws : List ℕ) (at k : ℕ) (r : Result ℕ Refusal) : Type 0 where
   pub same : taken at r ≡ word ws k (fits_kind k) at
   pub exists : Takes ws at k r

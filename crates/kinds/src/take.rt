@@ -4,14 +4,8 @@ ghost use Rattle.semantics.specs.Word.{between};
 ghost use Rattle.semantics.specs.ReadNet.{net_word, transition_word};
 ghost use Rattle.kinds.specs.Taken.{fits_kind, range_word, IsTaken};
 
+use semantics::refusal::Refusal;
 use word::fields::{MOST_WORDS, kind, payload, signed};
-
-// The 28 bits of a word, or a refusal's number and position.
-#[derive(Clone, Copy)]
-pub enum Taken {
-    Word(u32),
-    Refused(u32, usize),
-}
 
 fn in_limits(low: u32, high: u32, n: u32) -> bool
     ensures { result ≡ between low high n }
@@ -77,24 +71,24 @@ pub fn fits_kind(k: u32, p: u32) -> bool
     }
 }
 
-// The word of the kind k at a position.
-pub fn take(words: &[u32], at: usize, k: u32) -> Taken
+// The 28 bits of the word of the kind k at a position.
+pub fn take(words: &[u32], at: usize, k: u32) -> Result<u32, Refusal>
     ensures { IsTaken words.now at k result }
 {
     if words.len() <= at {
-        return Taken::Refused(2, words.len());
+        return Err(Refusal::NetEndsEarly(words.len()));
     }
     if MOST_WORDS <= at {
-        return Taken::Refused(1, MOST_WORDS);
+        return Err(Refusal::NetTooLong(MOST_WORDS));
     }
     let w = words[at];
     if kind(w) != k {
-        return Taken::Refused(3, at);
+        return Err(Refusal::BadWord(at));
     }
     let p = payload(w);
     if fits_kind(k, p) {
-        Taken::Word(p)
+        Ok(p)
     } else {
-        Taken::Refused(3, at)
+        Err(Refusal::BadWord(at))
     }
 }

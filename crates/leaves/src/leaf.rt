@@ -41,20 +41,14 @@ pub fn leaf(
     ensures keeps { Keeps kept keys.old amounts.old keys.new amounts.new }
 {
     if full {
-        return Inserted {
-            rows: rows,
-            full: full,
-        };
+        return Inserted { rows, full };
     }
     if enabled_behind(
         net, places, conjuncts, inputs, marking, begins, binding, start, kept, keys, amounts,
     ) {
         return insert_row(menu, rows, most, binding);
     }
-    Inserted {
-        rows: rows,
-        full: full,
-    }
+    Inserted { rows, full }
 }
 
 // The same where nothing is known of the input arcs.
@@ -82,8 +76,5 @@ pub fn only_leaf(
     if is_enabled(net, places, conjuncts, inputs, marking, begins, binding) {
         return insert_row(menu, rows, most, binding);
     }
-    Inserted {
-        rows: rows,
-        full: false,
-    }
+    Inserted { rows, full: false }
 }

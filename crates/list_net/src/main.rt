@@ -2,31 +2,26 @@
 // structure. At a refused word it prints the refusal and its reason. The refusal is the one of check, so that "refused 3 17" can be looked up.
 #![tactic(auto)]
 
-use listing::list::{list_words, print};
-use text_lines::line::put_bad_input;
+use listing::list::list_words;
+use listing::output::Output;
+use std::fmt;
+use std::fmt::Write;
 use word::bytes::words_of_bytes;
 
 // A length that is not a whole number of words is refused first, as check on bytes refuses it.
-fn list_bytes(bytes: &[u8]) {
+fn list_bytes(out: &mut impl fmt::Write, bytes: &[u8]) -> fmt::Result {
     let mut words = [0u32; 16385];
-    let count = words_of_bytes(bytes, &mut words[..]);
+    let count = words_of_bytes(bytes, &mut words);
     if bytes.len() % 4 == 0 {
-        list_words(&words[..], count);
+        list_words(out, &words[..count])
     } else {
-        let mut out = [0u8; 64];
-        let end = put_bad_input(&mut out[..], 0, 2, count);
-        print(&out[..], end);
+        writeln!(out, "refused 2 {count}")
     }
-}
-
-// Standard input to its end, or as much as there is room for.
-fn list_input(bytes: &mut [u8]) {
-    let n = io::read_full(0, bytes);
-    list_bytes(&bytes[..n]);
 }
 
 // No word behind the 16,385th is needed to tell what check says.
 fn main() {
     let mut space = [0u8; 65540];
-    list_input(&mut space);
+    let n = io::read_full(0, &mut space);
+    let _ = list_bytes(&mut Output, &space[..n]);
 }

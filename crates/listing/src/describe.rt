@@ -1,193 +1,159 @@
 // What a word is, in words, by the structure that it stands in.
-ghost use Rattle.std.specs.Prelude.{◌<◌, length};
-
-use crate::lines::put_line;
-use crate::spell::{put_expression, put_operator, put_variable};
-use crate::state::State;
-use text::number::{put_decimal, put_value};
-use text::put::{put_byte, put_bytes};
-use word::fields::{kind, payload};
-use word::size::at_most;
-
-// A name and a number.
-fn put_numbered(out: &mut [u8], at: usize, name: &[u8], n: usize) -> usize {
-    let next = put_bytes(out, at, name);
-    put_decimal(out, next, n)
-}
+use crate::spell::{operator_name, put_expression};
+use crate::state::{Inside, State};
+use std::fmt;
+use word::fields::{kind, payload, range_of, signed};
 
 // So many of something.
-fn put_many(out: &mut [u8], at: usize, n: usize, name: &[u8]) -> usize {
-    let told = put_decimal(out, at, n);
-    let spaced = put_byte(out, told, b' ');
-    let named = put_bytes(out, spaced, name);
-    if n == 1 {
-        return named;
+#[derive(Clone, Copy)]
+struct Many<'a>(u32, &'a str);
+
+impl fmt::Display for Many<'_> {
+    fn fmt<W: fmt::Write>(&self, f: &mut fmt::Formatter<W>) -> fmt::Result {
+        let Many(n, name) = *self;
+        let ending = if n == 1 { "" } else { "s" };
+        write!(f, "{n} {name}{ending}")
     }
-    put_byte(out, named, b's')
 }
 
-// The numbers of places and transitions.
-fn put_net(out: &mut [u8], at: usize, p: u32) -> usize {
-    let named = put_bytes(out, at, b"net, ");
-    let places = put_many(out, named, (p / 256 % 256) as usize, b"place");
-    let parted = put_bytes(out, places, b", ");
-    put_many(out, parted, (p % 256) as usize, b"transition")
-}
-
-// A place and its number of components.
-fn put_place(out: &mut [u8], at: usize, number: usize, p: u32) -> usize {
-    let named = put_numbered(out, at, b"place ", number);
-    let parted = put_bytes(out, named, b", ");
-    put_many(out, parted, (p % 8) as usize, b"component")
-}
-
-// How many a transition has of something, behind a comma.
-fn put_part(out: &mut [u8], at: usize, n: u32, name: &[u8]) -> usize {
-    let parted = put_bytes(out, at, b", ");
-    put_many(out, parted, (n % 16) as usize, name)
+// The first of some words, which stands at a state.
+#[derive(Clone, Copy)]
+pub struct Described<'a> {
+    pub state: &'a State,
+    pub words: &'a [u32],
 }
 
 // A transition and how many it has of each part.
-fn put_transition(out: &mut [u8], at: usize, number: usize, p: u32) -> usize {
-    let named = put_numbered(out, at, b"transition ", number);
-    let variables = put_part(out, named, p, b"variable");
-    let inputs = put_part(out, variables, p / 16, b"input arc");
-    let outputs = put_part(out, inputs, p / 256, b"output arc");
-    let conjuncts = put_part(out, outputs, p / 4096, b"conjunct");
-    put_part(out, conjuncts, p / 65536, b"element")
-}
-
-// Both ends of a range.
-fn put_span(out: &mut [u8], at: usize, p: u32) -> usize {
-    let from = put_bytes(out, at, b", from ");
-    let low = put_value(out, from, p / 16384);
-    let to = put_bytes(out, low, b" to ");
-    put_value(out, to, p)
+fn put_transition<W: fmt::Write>(f: &mut fmt::Formatter<W>, s: &State, p: u32) -> fmt::Result {
+    write!(f, "transition {}", s.transitions)?;
+    write!(f, ", {}", Many(p % 16, "variable"))?;
+    write!(f, ", {}", Many(p / 16 % 16, "input arc"))?;
+    write!(f, ", {}", Many(p / 256 % 16, "output arc"))?;
+    write!(f, ", {}", Many(p / 4096 % 16, "conjunct"))?;
+    write!(f, ", {}", Many(p / 65536 % 16, "element"))
 }
 
 // The range of a component or a variable.
-fn put_range(out: &mut [u8], at: usize, s: State, p: u32) -> usize {
-    if s.inside == 2 {
-        let named = put_numbered(out, at, b"component ", s.ranges);
-        return put_span(out, named, p);
-    }
-    let told = put_numbered(out, at, b"variable ", s.ranges);
-    put_span(out, told, p)
-}
-
-// 0 for an input arc, 1 for an output arc, which stand behind the inputs.
-fn side(arc: usize, inputs: usize) -> usize {
-    if arc < inputs {
-        return 0;
-    }
-    1
-}
-
-// The number of an arc among the inputs or among the outputs.
-fn number_of(arc: usize, inputs: usize) -> usize {
-    if arc < inputs {
-        return arc;
-    }
-    arc - inputs
-}
-
-// Whether an arc is an input or an output, its number among those, and its place.
-fn put_ends(out: &mut [u8], at: usize, s: State, p: u32) -> usize {
-    let inputs = (s.head / 16 % 16) as usize;
-    let line = side(s.arcs, inputs);
-    let named = put_line(out, at, b"input arc \noutput arc ", line);
-    let told = put_decimal(out, named, number_of(s.arcs, inputs));
-    let ended = put_line(out, told, b" from place \n to place ", line);
-    put_decimal(out, ended, (p % 256) as usize)
-}
-
-// A comma, but not before the first of several.
-fn put_comma(out: &mut [u8], at: usize, k: usize) -> usize {
-    if k == 0 {
-        return at;
-    }
-    put_bytes(out, at, b", ")
-}
-
-// So many expressions, one after the other, with commas between them.
-fn put_components(out: &mut [u8], at: usize, words: &[u32], from: usize, width: usize) -> usize {
-    let mut end = at;
-    let mut next = from;
-    let mut k = 0;
-    while k < width {
-        let parted = put_comma(out, end, k);
-        let one = put_expression(out, parted, words, next, 15);
-        end = one.at;
-        next = one.next;
-        k += 1;
-    }
-    end
-}
-
-// An arc with its coefficient and `width` components, which stand behind it.
-fn put_arc(out: &mut [u8], at: usize, s: State, words: &[u32], i: usize, width: usize) -> usize
-    requires { i < length words.now }
-{
-    let ends = put_ends(out, at, s, words[i]);
-    let named = put_bytes(out, ends, b", coefficient ");
-    let first = put_expression(out, named, words, i + 1, 15);
-    let opened = put_bytes(out, first.at, b", components (");
-    let end = put_components(out, opened, words, first.next, width);
-    put_byte(out, end, b')')
-}
-
-// The sign of a relation.
-fn put_relation(out: &mut [u8], at: usize, code: u32) -> usize {
-    put_line(out, at, b" = \n /= \n < \n <= ", (code % 4) as usize)
-}
-
-// A conjunct with both its sides, which stand behind it.
-fn put_conjunct(out: &mut [u8], at: usize, number: usize, words: &[u32], i: usize) -> usize
-    requires { i < length words.now }
-{
-    let named = put_numbered(out, at, b"conjunct ", number);
-    let parted = put_bytes(out, named, b", ");
-    let left = put_expression(out, parted, words, i + 1, 15);
-    let related = put_relation(out, left.at, words[i] % 4);
-    let right = put_expression(out, related, words, left.next, 15);
-    right.at
-}
-
-// What an element does, by its sort.
-fn put_sort(out: &mut [u8], at: usize, sort: usize) -> usize {
-    put_line(
-        out,
-        at,
-        b", match of input arc \n, solve of conjunct \n, range of variable ",
-        at_most(sort, 2),
+fn put_range<W: fmt::Write>(f: &mut fmt::Formatter<W>, s: &State, w: u32) -> fmt::Result {
+    let name = if s.inside == Inside::Place {
+        "component"
+    } else {
+        "variable"
+    };
+    let range = range_of(w);
+    write!(
+        f,
+        "{name} {}, from {} to {}",
+        s.ranges, range.low, range.high
     )
 }
 
-// An element of a plan.
-fn put_element(out: &mut [u8], at: usize, number: usize, p: u32) -> usize {
-    let named = put_numbered(out, at, b"element ", number);
-    let told = put_sort(out, named, (p / 256 % 4) as usize);
-    put_decimal(out, told, (p % 256) as usize)
+// Whether an arc is an input or an output, its number among those, and its place. The outputs stand behind the inputs.
+fn put_ends<W: fmt::Write>(f: &mut fmt::Formatter<W>, s: &State, place: u32) -> fmt::Result {
+    let inputs = s.head / 16 % 16;
+    let arc = s.arcs;
+    if arc < inputs {
+        write!(f, "input arc {arc} from place {place}")
+    } else {
+        write!(f, "output arc {} to place {place}", arc - inputs)
+    }
 }
 
-// The word at i.
-pub fn put_word(out: &mut [u8], at: usize, s: State, words: &[u32], i: usize, width: usize) -> usize
-    requires { i < length words.now }
-{
-    let w = words[i];
-    let p = payload(w);
-    match kind(w) {
-        1 => put_net(out, at, p),
-        2 => put_place(out, at, s.places, p),
-        3 => put_range(out, at, s, p),
-        4 => put_transition(out, at, s.transitions, p),
-        5 => put_arc(out, at, s, words, i, width),
-        6 => put_conjunct(out, at, s.conjuncts, words, i),
-        7 => put_value(out, at, w),
-        8 => put_variable(out, at, w),
-        9 => put_operator(out, at, p % 8),
-        10 => put_element(out, at, s.elements, p),
-        0 | 11..=15 => at,
-        _ => at,
+// So many expressions, one behind the other, with commas between them.
+fn put_components<W: fmt::Write>(
+    f: &mut fmt::Formatter<W>,
+    words: &[u32],
+    width: u32,
+) -> fmt::Result {
+    let mut rest = words;
+    for k in 0..width {
+        if 0 < k {
+            write!(f, ", ")?;
+        }
+        rest = put_expression(f, rest)?;
+    }
+    Ok(())
+}
+
+// An arc with its coefficient and its components, which stand behind it.
+fn put_arc<W: fmt::Write>(
+    f: &mut fmt::Formatter<W>,
+    s: &State,
+    w: u32,
+    rest: &[u32],
+) -> fmt::Result {
+    put_ends(f, s, payload(w) % 256)?;
+    write!(f, ", coefficient ")?;
+    let components = put_expression(f, rest)?;
+    write!(f, ", components (")?;
+    put_components(f, components, s.width(w))?;
+    write!(f, ")")
+}
+
+// The sign of a relation.
+fn relation_sign(code: u32) -> &'static str {
+    match code {
+        0 => "=",
+        1 => "/=",
+        2 => "<",
+        _ => "<=",
+    }
+}
+
+// A conjunct with both its sides, which stand behind it.
+fn put_conjunct<W: fmt::Write>(
+    f: &mut fmt::Formatter<W>,
+    s: &State,
+    p: u32,
+    rest: &[u32],
+) -> fmt::Result {
+    write!(f, "conjunct {}, ", s.conjuncts)?;
+    let right = put_expression(f, rest)?;
+    write!(f, " {} ", relation_sign(p % 4))?;
+    put_expression(f, right)?;
+    Ok(())
+}
+
+// What an element does, by its sort.
+fn sort_name(sort: u32) -> &'static str {
+    match sort {
+        0 => "match of input arc",
+        1 => "solve of conjunct",
+        _ => "range of variable",
+    }
+}
+
+// An element of a plan.
+fn put_element<W: fmt::Write>(f: &mut fmt::Formatter<W>, s: &State, p: u32) -> fmt::Result {
+    let sort = sort_name(p / 256 % 4);
+    write!(f, "element {}, {sort} {}", s.elements, p % 256)
+}
+
+impl fmt::Display for Described<'_> {
+    fn fmt<W: fmt::Write>(&self, f: &mut fmt::Formatter<W>) -> fmt::Result {
+        let s = self.state;
+        let Some((&w, rest)) = self.words.split_first() else {
+            return Ok(());
+        };
+        let p = payload(w);
+        match kind(w) {
+            1 => write!(
+                f,
+                "net, {}, {}",
+                Many(p / 256 % 256, "place"),
+                Many(p % 256, "transition")
+            ),
+            2 => write!(f, "place {}, {}", s.places, Many(p % 8, "component")),
+            3 => put_range(f, s, w),
+            4 => put_transition(f, s, p),
+            5 => put_arc(f, s, w, rest),
+            6 => put_conjunct(f, s, p, rest),
+            7 => write!(f, "{}", signed(w)),
+            8 => write!(f, "variable {}", w % 8),
+            9 => f.write_str(operator_name(p % 8)),
+            10 => put_element(f, s, p),
+            0 | 11..=15 => Ok(()),
+            _ => Ok(()),
+        }
     }
 }

@@ -7,9 +7,9 @@ pub mod list;
 pub mod describe;
 // Expressions in words.
 pub mod spell;
-// One of several texts.
-pub mod lines;
 // Why a word is refused.
 pub mod reason;
 // Where in a net a word stands.
 pub mod state;
+// Standard output as a writer.
+pub mod output;

@@ -1,9 +1,8 @@
 -- The rules of reading a binding: its values, and nothing after them. A binding that is accepted is its values' words.
-use mathlib.Core.Path.{◌≡◌, sym, ap, ◌∙◌, subst}
+use mathlib.Core.Path.{◌≡◌, refl, sym, ap, ◌∙◌, subst}
 use Prim.Native.Nat.{ℕ, zero, suc, ◌+◌, ◌≤◌, ◌<◌}
 use mathlib.Core.Bool.{true}
 use mathlib.Core.List.{List, [], ◌∷◌, ◌++◌, map, append-nil}
-use borrow.Author.Rules.{rules}
 use borrow.Author.Tests.{le-leb, lt-leb, leb-true}
 use lib.Dec.{leb}
 use lib.IntN.{ℤ}
@@ -19,36 +18,36 @@ use Rattle.semantics.proofs.Spans.{refused-read, read_same, demand-read, numbere
 use Rattle.word.specs.Fields.{range_word}
 use Rattle.word.proofs.Words.{range_small}
 use Rattle.net.specs.Places.{ranges_from}
-use Rattle.expression.specs.declared.read.Skipped.{Skipped}
-use Rattle.expression.specs.declared.read.Skipped.TheVariants.{Next, Refused}
+use Rattle.semantics.specs.declared.refusal.Refusal.{Refusal}
+use Rattle.semantics.specs.Answer.{refusing}
+use Rattle.std.specs.Prelude.{Result, Ok, Err}
 use Rattle.expression.specs.Skip.{forget, skipped}
 use Rattle.marking.specs.Marked.{binding_read}
 
-module _ (rs : List Range) (ws : List ℕ) {r : Skipped} (x : skipped r ≡ forget (values_in ws rs 0)) where
-  values : {next : ℕ} → r ≡ Next next → (b : List ℤ) × (values_in ws rs 0 ≡ read b next)
-  values {next} d = by (values_in ws rs 0) (sym (ap skipped d) ∙ x)
+module _ (rs : List Range) (ws : List ℕ) where
+  pub binding-refused : {s : Result ℕ Refusal} {e : Refusal} → skipped s ≡ numbered bad_binding (forget (values_in ws rs 0)) → s ≡ Err e → refusing e ≡ forget (binding_read rs ws)
+  unfolding binding_read
+  binding-refused {e = e} x d = by (values_in ws rs 0) (sym (ap skipped d) ∙ x)
     where
-      by : (y : Reading (List ℤ)) → read tt next ≡ forget y → (b : List ℤ) × (y ≡ read b next)
-      by (read b end) e = (b, cc)
-      by (refused n q) e = refused-read n q tt next (sym e)
+      by : (y : Reading (List ℤ)) → refusing e ≡ numbered bad_binding (forget y) → refusing e ≡ forget (numbered bad_binding (then y (λ b next. ended ws b next)))
+      by (read b end) x = refused-read _ _ tt end x
+      by (refused n p) x = x
 
-  pub binding-refused : {m q : ℕ} → r ≡ Refused m q → refused bad_binding q ≡ forget (binding_read rs ws)
-  unfolding binding_read
-  binding-refused {m} {q} d = by (values_in ws rs 0) (sym (ap skipped d) ∙ x)
-    where
-      by : (y : Reading (List ℤ)) → refused m q ≡ forget y → refused bad_binding q ≡ forget (numbered bad_binding (then y (λ b next. ended ws b next)))
-      by (read b end) e = refused-read m q tt end e
-      by (refused n p) e = let s : q ≡ p = cc in rw s
+  module _ {next : ℕ} {s : Result ℕ Refusal} (x : skipped s ≡ numbered bad_binding (forget (values_in ws rs 0))) (d : s ≡ Ok next) where
+    values : (b : List ℤ) × (values_in ws rs 0 ≡ read b next)
+    values = by (values_in ws rs 0) (sym (ap skipped d) ∙ x)
+      where
+        by : (y : Reading (List ℤ)) → read tt next ≡ numbered bad_binding (forget y) → (b : List ℤ) × (y ≡ read b next)
+        by (read b end) e = (b, cc)
+        by (refused n q) e = refused-read bad_binding q tt next (sym e)
 
-  pub binding-long : {next : ℕ} → r ≡ Next next → next < length ws → refused bad_binding next ≡ forget (binding_read rs ws)
-  unfolding binding_read
-  binding-long d h = let (b, e) = values d in rw (e, lt-leb (length ws) _ h)
+    pub binding-long : next < length ws → refused bad_binding next ≡ forget (binding_read rs ws)
+    unfolding binding_read
+    binding-long h = let (b, e) = values in rw (e, lt-leb (length ws) _ h) refl
 
-  pub binding-whole : {next : ℕ} → r ≡ Next next → length ws ≤ next → read tt next ≡ forget (binding_read rs ws)
-  unfolding binding_read
-  binding-whole d h = let (b, e) = values d in rw (e, le-leb (length ws) _ h)
-
-pub ruleset binding = (rules, binding-refused, binding-long, binding-whole)
+    pub binding-whole : length ws ≤ next → read tt next ≡ forget (binding_read rs ws)
+    unfolding binding_read
+    binding-whole h = let (b, e) = values in rw (e, le-leb (length ws) _ h) refl
 
 -- ── A binding that is accepted ──
 

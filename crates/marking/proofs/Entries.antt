@@ -2,12 +2,10 @@
 -- values are those of the words after its TOKEN.
 use mathlib.Core.Path.{◌≡◌, refl, sym, ap, ◌∙◌}
 use Prim.Native.Nat.{ℕ, suc, ◌+◌, ◌≤◌, ◌<◌, ◌/◌, ◌%◌, ◌^◌}
-use mathlib.Core.Bool.{Bool, true, false, not}
+use mathlib.Core.Bool.{true, false}
 use mathlib.Core.List.{List, [], ◌∷◌}
-use borrow.Author.Rules.{rules}
-use borrow.Author.Tests.{lt-ltb, ltb-true, not-true, not-false}
+use borrow.Author.Tests.{ltb-true}
 use native.Mathlib.Omega.{arith}
-use lib.Dec.{leb}
 use lib.IntN.{ℤ}
 use lib.ListN.{length, get_or}
 use Rattle.semantics.specs.Refusal.{bad_word}
@@ -16,29 +14,22 @@ use Rattle.semantics.specs.Reading.{Reading, read, refused, then, demand, word, 
 use Rattle.semantics.specs.Marking.{read_entry}
 use Rattle.semantics.proofs.Tests.{and_left}
 use Rattle.semantics.proofs.Spans.{Span, then-read, read_same, word_read, value_in, drop-first}
-use Rattle.expression.specs.declared.read.Skipped.{Skipped}
-use Rattle.expression.specs.declared.read.Skipped.TheVariants.{Next, Refused}
 use Rattle.expression.specs.Skip.{forget, skipped}
-use Rattle.kinds.specs.declared.take.Taken.{Taken}
-use Rattle.kinds.specs.declared.take.Taken.TheVariants.{Word, Refused as TakeRefused}
+use Rattle.semantics.specs.declared.refusal.Refusal.{Refusal}
+use Rattle.semantics.specs.Answer.{refusing}
+use Rattle.std.specs.Prelude.{Result, Ok, Err}
 use Rattle.kinds.specs.Taken.{fits_kind, IsTaken}
 use Rattle.net.specs.Skim.{changed}
 use Rattle.net.specs.Places.{ranges_from, width_at, places_at}
-use Rattle.net.proofs.Placed.{places-length, ranges_at_lem, place_inside, place-room}
-use Rattle.net.proofs.Structures.{stricter, word-refused, word-taken, next_fits}
+use Rattle.net.proofs.Placed.{places-length, ranges_at_lem}
+use Rattle.net.proofs.Structures.{stricter}
 use Rattle.colours.specs.Values.{values_at}
 use Rattle.semantics.proofs.ReadEntries.{token_in, token_parts}
 use Rattle.marking.specs.Marked.{entry_place}
 
--- the last of the three tests of a TOKEN word
-pub token_last : {places p : ℕ} → p < 4194304 → p / 16384 % 256 < places → leb 1 (p % 16384) ≡ token_in places p
-token_last {places} {p} h k =
-    let s : p / 1 ≡ p = omega arith in
-    rw (lt-ltb p (2 ^ 22) h, lt-ltb (p / 16384 % 256) places k, s)
-
 -- a TOKEN word that passes names a place
-pub token_in_lem : {places : ℕ} (w : ℕ) {u : Bool} → u ≡ token_in places w → not u ≡ false → w / 16384 % 256 < places
-token_in_lem {places} w s d = (token_parts places w (sym s ∙ not-false _ d)).1
+pub token_in_lem : {places : ℕ} (w : ℕ) → true ≡ token_in places w → w / 16384 % 256 < places
+token_in_lem {places} w s = (token_parts places w (sym s)).1
 
 -- ── Values in words ──
 
@@ -76,40 +67,30 @@ values-stand ws (r ∷ rs) at c next e =
 
 -- ── An entry ──
 
-module _ (nws ats ws : List ℕ) (at : ℕ) {t : Taken} (w : IsTaken ws at 0xB t) where
+module _ (nws ats ws : List ℕ) (at : ℕ) where
   token_word_lem : word ws 0xB (token_in (length (places_at nws ats))) at ≡ then (word ws 0xB (fits_kind 0xB) at) (λ p next. demand (token_in (length ats) p) at (read p next))
   unfolding fits_kind
   token_word_lem = rw (places-length nws ats) (stricter ws 0xB (fits_kind 0xB) (token_in (length ats)) (λ p. refl) at)
 
-  pub entry_refused : {m q : ℕ} → t ≡ TakeRefused m q → refused m q ≡ changed entry_place (read_entry (places_at nws ats) ws at)
+  pub entry_refused : {e : Refusal} → IsTaken ws at 0xB (Err e) → refusing e ≡ changed entry_place (read_entry (places_at nws ats) ws at)
   unfolding read_entry
-  entry_refused e = rw (token_word_lem, word-refused w e)
+  entry_refused w = rw (token_word_lem, ← w.same) refl
 
-  module _ {p : ℕ} (e : t ≡ Word p) {u : Bool} (s : u ≡ token_in (length ats) p) where
-    pub entry_unfit : not u ≡ true → refused bad_word at ≡ changed entry_place (read_entry (places_at nws ats) ws at)
+  module _ {p : ℕ} (w : IsTaken ws at 0xB (Ok p)) where
+    pub entry_unfit : false ≡ token_in (length ats) p → refused bad_word at ≡ changed entry_place (read_entry (places_at nws ats) ws at)
     unfolding read_entry
-    entry_unfit d = let f : token_in (length ats) p ≡ false = sym s ∙ not-true _ d in rw (token_word_lem, word-taken w e, f)
+    entry_unfit d = rw (token_word_lem, ← w.same, ← d) refl
 
-    module _ (d : not u ≡ false) where
-      fit : token_in (length ats) p ≡ true
-      fit = sym s ∙ not-false _ d
-
-      token_place : p / 16384 % 256 < length ats
-      token_place = token_in_lem p s d
-
+    module _ (d : true ≡ token_in (length ats) p) where
       entry_rest : changed entry_place (read_entry (places_at nws ats) ws at) ≡ changed (λ u. p / 16384 % 256) (forget (values_in ws (ranges_from nws (width_at nws (get_or ats (p / 16384 % 256) 0)) (get_or ats (p / 16384 % 256) 0 + 1)) (at + 1)))
       unfolding read_entry
-      entry_rest = rw (token_word_lem, word-taken w e, fit, ranges_at_lem nws ats (p / 16384 % 256) token_place) (by (values_in ws (ranges_from nws (width_at nws (get_or ats (p / 16384 % 256) 0)) (get_or ats (p / 16384 % 256) 0 + 1)) (at + 1)))
+      entry_rest = rw (token_word_lem, ← w.same, ← d, ranges_at_lem nws ats (p / 16384 % 256) (token_in_lem p d)) (by (values_in ws (ranges_from nws (width_at nws (get_or ats (p / 16384 % 256) 0)) (get_or ats (p / 16384 % 256) 0 + 1)) (at + 1)))
         where
           by : (x : Reading (List ℤ)) → changed entry_place (then x (λ c last. read (record { place = bits 14 21 p; count = bits 0 13 p; colour = c }) last)) ≡ changed (λ u. p / 16384 % 256) (forget x)
           by (read c next) = refl
           by (refused n q) = refl
 
-      module _ {n : ℕ} {r : Skipped} (k : n ≡ width_at nws (get_or ats (p / 16384 % 256) 0)) (v : skipped r ≡ forget (values_in ws (ranges_from nws n (get_or ats (p / 16384 % 256) 0 + 1)) (at + 1))) where
-        pub entry_read_lem : {next : ℕ} → r ≡ Next next → read (p / 16384 % 256) next ≡ changed entry_place (read_entry (places_at nws ats) ws at)
-        entry_read_lem i = sym (entry_rest ∙ ap (changed (λ u. p / 16384 % 256)) (sym (rw k at v)) ∙ ap (λ (r : Skipped). changed (λ u. p / 16384 % 256) (skipped r)) i)
-
-        pub entry_stops : {m q : ℕ} → r ≡ Refused m q → refused m q ≡ changed entry_place (read_entry (places_at nws ats) ws at)
-        entry_stops i = sym (entry_rest ∙ ap (changed (λ u. p / 16384 % 256)) (sym (rw k at v)) ∙ ap (λ (r : Skipped). changed (λ u. p / 16384 % 256) (skipped r)) i)
-
-pub ruleset entering = (rules, next_fits, entry_refused, entry_unfit, token_in_lem, entry_read_lem, entry_stops, place_inside, place-room)
+      -- what the reader of its values answers
+      pub entry_told : {n : ℕ} (r : Result ℕ Refusal) → n ≡ width_at nws (get_or ats (p / 16384 % 256) 0) → skipped r ≡ forget (values_in ws (ranges_from nws n (get_or ats (p / 16384 % 256) 0 + 1)) (at + 1))
+          → changed (λ u. p / 16384 % 256) (skipped r) ≡ changed entry_place (read_entry (places_at nws ats) ws at)
+      entry_told r k v = ap (changed (λ u. p / 16384 % 256)) (rw k at v) ∙ sym entry_rest

@@ -1,53 +1,34 @@
--- The rules of looking for the first word that passes a test: those before it do not, so what is ahead decides.
-use mathlib.Core.Path.{◌≡◌, refl, sym, ◌∙◌}
-use Prim.Native.Nat.{ℕ, ◌+◌, ◌/◌, ◌%◌, ◌≤◌, ◌<◌}
-use mathlib.Core.Bool.{Bool, true, false, not, ◌&&◌}
+-- The first word that passes a test, as the library and as the definition have it.
+use mathlib.Core.Path.{◌≡◌, refl}
+use Prim.Native.Nat.compare.{suc-suc}
+use Prim.Native.Nat.{ℕ, suc, ◌+◌}
+use mathlib.Core.Bool.{Bool, true, false, cond}
 use mathlib.Core.List.{List, [], ◌∷◌}
-use mathlib.Core.Option.{none, some}
-use borrow.Author.Tests.{ne_eqb, eq-eqb, not-true, not-false}
-use native.Mathlib.Numerals.{add-one}
+use borrow.Author.Tests.{lt-ltb}
 use native.Mathlib.Omega.{arith}
-use lib.Dec.{leb, ltb}
-use lib.ListN.{length, get_or, drop, drop_of_length-le}
-use lib.Seq.{drop-cons}
-use Rattle.semantics.specs.Word.{kind, payload}
-use Rattle.semantics.specs.Marking.{is_pick, pick_transition, first_that}
+use lib.Dec.{ltb}
+use lib.ListN.{length}
+use Rattle.std.specs.List.{position_or_len, position}
+use Rattle.std.specs.Prelude.{Some, None}
+use Rattle.semantics.specs.Answer.{option_of}
+use Rattle.semantics.specs.Marking.{first_that}
 
--- none of the i first words passes
-pub record Looking (p : ℕ → Bool) (ws : List ℕ) (i : ℕ) : Type 0 where
-  pub inside : i ≤ length ws
-  pub same : first_that p (drop i ws) i ≡ first_that p ws 0
+-- the first place at which a test passes, as the library has it
+first-at : (p : ℕ → Bool) (ws : List ℕ) (at : ℕ) → option_of (cond (ltb (position_or_len p ws) (length ws)) (Some (at + position_or_len p ws)) None) ≡ first_that p ws at
+unfolding first_that
+first-at p [] at = refl
+first-at p (w ∷ ws) at = by (p w) refl (first-at p ws (at + 1))
+  where
+    by : (t : Bool) → p w ≡ t → option_of (cond (ltb (position_or_len p ws) (length ws)) (Some (at + 1 + position_or_len p ws)) None) ≡ first_that p ws (at + 1)
+        → option_of (cond (ltb (position_or_len p (w ∷ ws)) (suc (length ws))) (Some (at + position_or_len p (w ∷ ws))) None) ≡ first_that p (w ∷ ws) at
+    by true e h =
+        let l = lt-ltb 0 (suc (length ws)) (omega arith) in
+        let z : at + 0 ≡ at = omega arith in
+        rw (e, l, z) refl
+    by false e h =
+        let s : at + (1 + position_or_len p ws) ≡ at + 1 + position_or_len p ws = omega arith in
+        let u : 1 + position_or_len p ws ≡ suc (position_or_len p ws) = omega arith in
+        rw (e, s, u, suc-suc) h
 
-pub looking_start : (p : ℕ → Bool) (ws : List ℕ) → Looking p ws 0
-looking_start p ws = record { inside = omega arith; same = refl }
-
-module _ {p : ℕ → Bool} {ws : List ℕ} {i : ℕ} (a : Looking p ws i) where
-  pub looking_end : length ws ≤ i → none ≡ first_that p ws 0
-  unfolding first_that
-  looking_end h = let e : drop i ws ≡ [] = drop_of_length-le ws h in rw e at a.same
-
-  module _ (h : i < length ws) where
-    next : first_that p (get_or ws i 0 ∷ drop (i + 1) ws) i ≡ first_that p ws 0
-    next = rw (drop-cons ws i 0 h, ← add-one i) at a.same
-
-    pub looking_found : p (get_or ws i 0) ≡ true → some i ≡ first_that p ws 0
-    unfolding first_that
-    looking_found t = rw t at next
-
-    pub looking_turn : p (get_or ws i 0) ≡ false → Looking p ws (i + 1)
-    unfolding first_that
-    looking_turn t = record { inside = omega arith; same = rw t at next }
-
--- ── The words of picks ──
-
-pub other-kind : (w : ℕ) {k : ℕ} → k ≡ kind w → (k ≡ 13 → ⊥) → false ≡ is_pick w
-other-kind w {k} e f = rw (ne_eqb (kind w) 13 (λ g. f (e ∙ g)))
-
-pub pick-kind : (w : ℕ) {k p : ℕ} → k ≡ kind w → k ≡ 13 → p ≡ payload w → ltb p 4194304 ≡ is_pick w
-pick-kind w {k} {p} e f g = rw (eq-eqb (kind w) 13 (sym e ∙ f), g)
-
-pub no_pick : (w transitions : ℕ) {t : Bool} → t ≡ is_pick w → not t ≡ true → false ≡ (is_pick w && leb transitions (pick_transition w))
-no_pick w transitions e f = let g : is_pick w ≡ false = sym e ∙ not-true _ f in rw g
-
-pub a_pick : (w transitions : ℕ) {t : Bool} → t ≡ is_pick w → not t ≡ false → leb transitions (w / 16384 % 256) ≡ (is_pick w && leb transitions (pick_transition w))
-a_pick w transitions e f = let g : is_pick w ≡ true = sym e ∙ not-false _ f in rw g
+pub first_lem : (p : ℕ → Bool) (ws : List ℕ) → option_of (position p ws) ≡ first_that p ws 0
+first_lem p ws = let s : 0 + position_or_len p ws ≡ position_or_len p ws = omega arith in rw s at (first-at p ws 0)

@@ -3,3 +3,4 @@ pub mod Rising
 pub mod Bound
 pub mod First
 pub mod Counted
+pub mod Mapped

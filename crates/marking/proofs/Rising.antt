@@ -3,10 +3,10 @@
 use mathlib.Core.Path.{◌≡◌, refl, sym, ap, ◌∙◌, subst}
 use Prim.Native.Nat.{ℕ, zero, suc, ◌+◌, ◌-◌, ◌≤◌, ◌<◌, ◌%◌}
 use mathlib.Core.Logic.{◌⊎◌, inl, inr}
-use mathlib.Core.Bool.{Bool, true, false, cond, not, and-false}
+use mathlib.Core.Bool.{Bool, true, false, cond, and-false}
 use mathlib.Core.List.{List, [], ◌∷◌, ◌++◌, append-nil, append_assoc}
 use borrow.Author.Rules.{rules}
-use borrow.Author.Tests.{leb-true, leb-false, lt-leb, le-leb, lt-ltb, le-ltb, ltb-true, ltb-false, ne_eqb, eq-eqb, eqb-true, eqb-false, not-true, not-false}
+use borrow.Author.Tests.{leb-true, leb-false, lt-leb, le-leb, lt-ltb, le-ltb, ltb-true, ltb-false, ne_eqb, eq-eqb, eqb-true, eqb-false}
 use native.Mathlib.Omega.{arith}
 use lib.Dec.{leb, ltb, eqb}
 use lib.IntN.{ℤ, pos}
@@ -22,15 +22,16 @@ use Rattle.semantics.specs.Marking.{Entry, key, read_entry, rising, read_entries
 use Rattle.semantics.proofs.Spans.{Span, then-read, read_same, refused-read, word_read, drop-first}
 use Rattle.semantics.proofs.Tests.{false_true, either, Every-at, Every-of}
 use Rattle.semantics.proofs.Members.{every_snoc}
-use Rattle.expression.specs.declared.read.Skipped.TheVariants.{Next, Refused}
+use Rattle.semantics.specs.declared.refusal.Refusal.{Refusal}
+use Rattle.semantics.specs.declared.refusal.Refusal.TheVariants.{BadMarking}
+use Rattle.semantics.specs.Answer.{refusing}
+use Rattle.std.specs.Prelude.{Ok, Err}
 use Rattle.expression.specs.Skip.{forget}
 use Rattle.net.specs.Skim.{changed}
 use Rattle.net.proofs.Loops.{changed-same}
-use Rattle.marking.specs.declared.entry.EntryRead.{EntryRead}
-use Rattle.marking.specs.declared.entry.EntryRead.TheVariants.{Entry as EntryAt, Refused as EntryRefused}
 use Rattle.colours.specs.Values.{values_at}
 use Rattle.semantics.proofs.ReadEntries.{token_in, token_parts}
-use Rattle.marking.specs.Marked.{entry_place, entry_read, marking_read, position_of, begin_of, Begun, rises_after, IsMarking}
+use Rattle.marking.specs.Marked.{entry_place, marking_read, position_of, begin_of, Begun, rises_after, IsMarking}
 use Rattle.colours.proofs.Comparing.{values_length}
 use Rattle.marking.proofs.Entries.{Values, values-stand}
 
@@ -335,30 +336,30 @@ module _ {ps : List Place} {ws begins : List ℕ} {last place at : ℕ} (a : SoF
 
 -- ── By the answers of the code ──
 
--- what the answer for an entry says
-answer-read : (ps : List Place) (ws : List ℕ) (at : ℕ) {r : EntryRead} {p next : ℕ} → entry_read r ≡ changed entry_place (read_entry ps ws at) → r ≡ EntryAt p next → (e : Entry) × (read_entry ps ws at ≡ read e next) × (e.place ≡ p)
-answer-read ps ws at {r} {p} {next} x d = by (read_entry ps ws at) refl (sym (ap entry_read d) ∙ x)
+-- what the answer for an entry says, any refusal being 7
+answer-read : (ps : List Place) (ws : List ℕ) (at : ℕ) {p next : ℕ} → read p next ≡ numbered bad_marking (changed entry_place (read_entry ps ws at)) → (e : Entry) × (read_entry ps ws at ≡ read e next) × (e.place ≡ p)
+answer-read ps ws at {p} {next} x = by (read_entry ps ws at) refl x
   where
-    by : (y : Reading Entry) → read_entry ps ws at ≡ y → read p next ≡ changed entry_place y → (e : Entry) × (y ≡ read e next) × (e.place ≡ p)
+    by : (y : Reading Entry) → read_entry ps ws at ≡ y → read p next ≡ numbered bad_marking (changed entry_place y) → (e : Entry) × (y ≡ read e next) × (e.place ≡ p)
     by (read e end) q i = (e, cc, cc)
-    by (refused n s) q i = refused-read n s p next (sym i)
+    by (refused n s) q i = refused-read bad_marking s p next (sym i)
 
-answer-refused : (ps : List Place) (ws : List ℕ) (at : ℕ) {r : EntryRead} {m q : ℕ} → entry_read r ≡ changed entry_place (read_entry ps ws at) → r ≡ EntryRefused m q → read_entry ps ws at ≡ refused m q
-answer-refused ps ws at {r} {m} {q} x d = by (read_entry ps ws at) (sym (ap entry_read d) ∙ x)
+answer-refused : (ps : List Place) (ws : List ℕ) (at : ℕ) (e : Refusal) → refusing e ≡ numbered bad_marking (changed entry_place (read_entry ps ws at)) → (m : ℕ) × (q : ℕ) × (read_entry ps ws at ≡ refused m q) × (refusing {A = Unit {0}} e ≡ refused bad_marking q)
+answer-refused ps ws at e x = by (read_entry ps ws at) x
   where
-    by : (y : Reading Entry) → refused m q ≡ changed entry_place y → y ≡ refused m q
-    by (read e end) i = refused-read m q e.place end i
-    by (refused n s) i = cc
+    by : (y : Reading Entry) → refusing e ≡ numbered bad_marking (changed entry_place y) → (m : ℕ) × (q : ℕ) × (y ≡ refused m q) × (refusing {A = Unit {0}} e ≡ refused bad_marking q)
+    by (read d end) i = refused-read _ _ d.place end i
+    by (refused n s) i = (n, s, refl, cc)
 
 -- a refusal, whatever was written of the places
-refusal : (ps : List Place) (ws : List ℕ) (q : ℕ) (begins : List ℕ) → marking_read ps ws ≡ refused bad_marking q → IsMarking ps ws (Refused bad_marking q) begins
-refusal ps ws q begins e = record {
-  same = sym (ap forget e);
+refusal : (ps : List Place) (ws : List ℕ) (q : ℕ) (begins : List ℕ) {e : Refusal} → refusing {A = Unit {0}} e ≡ refused bad_marking q → marking_read ps ws ≡ refused bad_marking q → IsMarking ps ws (Err e) begins
+refusal ps ws q begins d e = record {
+  same = d ∙ sym (ap forget e);
   begins = λ es next f p h. refused-read bad_marking q es next (sym e ∙ f);
 }
 
 module _ {ps : List Place} {ws begins : List ℕ} {last place at : ℕ} (a : SoFar ps ws begins last place at) where
-  pub marking_ends : {begins' : List ℕ} → length ws ≤ at → Begun begins (place + 1) 65 at begins' → IsMarking ps ws (Next at) begins'
+  pub marking_ends : {begins' : List ℕ} → length ws ≤ at → Begun begins (place + 1) 65 at begins' → IsMarking ps ws (Ok at) begins'
   marking_ends {begins'} h b = record { same = sym (ap forget (so_far_end a h)); begins = begins_at }
     where
       by : (p : ℕ) → p ≤ 64 → (leb p place ≡ true) ⊎ (leb p place ≡ false) → get_or begins' p 0 ≡ begin_of a.entries p
@@ -377,33 +378,30 @@ module _ {ps : List Place} {ws begins : List ℕ} {last place at : ℕ} (a : SoF
           let s = read_same a.entries es at next (sym (so_far_end a h) ∙ f) in
           by p k (either (leb p place)) ∙ ap (λ (l : List Entry). begin_of l p) s.0
 
-  module _ (h : at < length ws) {r : EntryRead} (x : entry_read r ≡ changed entry_place (read_entry ps ws at)) where
-    pub marking_refused : {m q : ℕ} → r ≡ EntryRefused m q → IsMarking ps ws (Refused bad_marking q) begins
-    marking_refused {m} {q} d = refusal ps ws q begins (so_far_refused a h (answer-refused ps ws at x d))
+  module _ (h : at < length ws) where
+    pub marking_refused : (e : Refusal) → refusing e ≡ numbered bad_marking (changed entry_place (read_entry ps ws at)) → IsMarking ps ws (Err e) begins
+    marking_refused e x = let (m, q, y, d) = answer-refused ps ws at e x in refusal ps ws q begins d (so_far_refused a h y)
 
-    module _ {p next : ℕ} (d : r ≡ EntryAt p next) where
+    module _ {p next : ℕ} (x : read p next ≡ numbered bad_marking (changed entry_place (read_entry ps ws at))) where
       entry_there : (e : Entry) × (read_entry ps ws at ≡ read e next) × (e.place ≡ p)
-      entry_there = answer-read ps ws at x d
+      entry_there = answer-read ps ws at x
 
       -- where the entry ends, and that its place is one of the net
       pub entry_ends : (at + 1 ≤ next) × (next ≤ length ws) × (p < length ps)
       entry_ends = let (e, y, z) = entry_there in let s = entry_stands ps ws at e next h y in let i = s.after in let j = s.inside in let k = s.placed in (omega arith, j, omega arith)
 
-      module _ {u : Bool} (o : u ≡ rises_after ws last place at p (next - at - 1)) where
-        ordered : (e : Entry) (y : read_entry ps ws at ≡ read e next) → e.place ≡ p → u ≡ before a.after (key e.place e.colour)
-        ordered e y z = o ∙ ap (λ (q : ℕ). rises_after ws last place at q (next - at - 1)) (sym z) ∙ in_order a h e next y
+      ordered : (e : Entry) (y : read_entry ps ws at ≡ read e next) → e.place ≡ p → rises_after ws last place at p (next - at - 1) ≡ before a.after (key e.place e.colour)
+      ordered e y z = ap (λ (q : ℕ). rises_after ws last place at q (next - at - 1)) (sym z) ∙ in_order a h e next y
 
-        pub marking_unordered : not u ≡ true → IsMarking ps ws (Refused bad_marking at) begins
-        unfolding marking_read
-        marking_unordered i =
-            let (e, y, z) = entry_there in
-            let f : before a.after (key e.place e.colour) ≡ false = sym (ordered e y z) ∙ not-true _ i in
-            let (n, k) = one_round a h in
-            refusal ps ws at begins (rw (turn a h n k, y, f))
+      pub marking_unordered : false ≡ rises_after ws last place at p (next - at - 1) → IsMarking ps ws (Err (BadMarking at)) begins
+      unfolding marking_read
+      marking_unordered i =
+          let (e, y, z) = entry_there in
+          let f : before a.after (key e.place e.colour) ≡ false = sym (i ∙ ordered e y z) in
+          let (n, k) = one_round a h in
+          refusal ps ws at begins refl (rw (turn a h n k, y, f))
 
-        pub marking_goes : {begins' : List ℕ} → not u ≡ false → length begins' ≡ length begins → p < 64 → Begun begins (place + 1) (p + 1) at begins' → SoFar ps ws begins' at p next
-        marking_goes {begins'} i l few b =
-            let (e, y, z) = entry_there in
-            subst (λ (q : ℕ). SoFar ps ws begins' at q next) z (so_far_goes a h e next y (sym (ordered e y z) ∙ not-false _ i) l (rw z few) (rw z b))
-
-pub ruleset indexing = (rules, marking_ends, marking_refused, marking_unordered, marking_goes)
+      pub marking_goes : {begins' : List ℕ} → true ≡ rises_after ws last place at p (next - at - 1) → length begins' ≡ length begins → p < 64 → Begun begins (place + 1) (p + 1) at begins' → SoFar ps ws begins' at p next
+      marking_goes {begins'} i l few b =
+          let (e, y, z) = entry_there in
+          subst (λ (q : ℕ). SoFar ps ws begins' at q next) z (so_far_goes a h e next y (sym (i ∙ ordered e y z)) l (rw z few) (rw z b))

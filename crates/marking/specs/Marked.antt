@@ -1,18 +1,17 @@
 -- What the code tells of a marking: its entries where they stand, and where the entries of a place begin.
 -- Rests on semantics/specs/Marking and colours/specs/Values.
-use Rattle.std.specs.Prelude.{◌≡◌, ℕ, ◌+◌, ◌≤◌, ◌<◌, Bool, true, cond, List, [], ◌∷◌, eqb, ℤ, pos, length, get_or, take}
+use Rattle.std.specs.Prelude.{◌≡◌, ℕ, ◌+◌, ◌≤◌, ◌<◌, Bool, true, cond, List, [], ◌∷◌, eqb, ℤ, pos, length, get_or, take, Result, Ok, Err}
+use Rattle.semantics.specs.declared.refusal.Refusal.{Refusal}
+use Rattle.semantics.specs.declared.refusal.Refusal.TheVariants.{BadMarking}
+use Rattle.semantics.specs.Answer.{refusing}
 use Rattle.semantics.specs.Refusal.{bad_marking, bad_binding}
 use Rattle.semantics.specs.Word.{Range}
-use Rattle.semantics.specs.Reading.{Reading, read, refused, then, values_in, ended, numbered}
+use Rattle.semantics.specs.Reading.{Reading, read, then, values_in, ended, numbered}
 use Rattle.semantics.specs.Net.{Place, Net}
 use Rattle.semantics.specs.Order.{before}
 use Rattle.semantics.specs.Marking.{Entry, key, read_entries, Counts, counts_of, marking_words}
-use Rattle.expression.specs.declared.read.Skipped.{Skipped}
-use Rattle.expression.specs.declared.read.Skipped.TheVariants.{Refused}
 use Rattle.expression.specs.Skip.{forget, skipped}
 use Rattle.colours.specs.Values.{values_at}
-use Rattle.marking.specs.declared.entry.EntryRead.{EntryRead}
-use Rattle.marking.specs.declared.entry.EntryRead.TheVariants.{Entry as EntryAt, Refused as EntryRefused}
 
 -- ── One entry ──
 
@@ -20,9 +19,9 @@ abbrev pub entry_place : Entry → ℕ
 entry_place e = e.place
 
 -- the place of an entry that is read
-abbrev pub entry_read : EntryRead → Reading ℕ
-entry_read (EntryAt p next) = read p next
-entry_read (EntryRefused n q) = refused n q
+abbrev pub entry_read : Result (ℕ × ℕ) Refusal → Reading ℕ
+entry_read (Ok r) = read r.0 r.1
+entry_read (Err e) = refusing e
 
 -- ── All entries ──
 
@@ -49,13 +48,13 @@ abbrev pub rises_after : List ℕ → ℕ → ℕ → ℕ → ℕ → ℕ → Bo
 rises_after ws last place at p n = cond (eqb at 0) true (before (key place (values_at ws n (last + 1))) (key p (values_at ws n (at + 1))))
 
 -- where a marking ends or why it cannot be read, and a table of where the entries of each place begin
-pub record IsMarking (places : List Place) (ws : List ℕ) (end : Skipped) (table : List ℕ) : Type 0 where
+pub record IsMarking (places : List Place) (ws : List ℕ) (end : Result ℕ Refusal) (table : List ℕ) : Type 0 where
   pub same : skipped end ≡ forget (marking_read places ws)
   pub begins : (es : List Entry) (next : ℕ) → marking_read places ws ≡ read es next → (p : ℕ) → p ≤ 64 → get_or table p 0 ≡ begin_of es p
 
 -- "m beyond its buffer, at the buffer's length; marking (in a run its words end at m)"
-pub record IsMarkingIn (places : List Place) (buffer : List ℕ) (m : ℕ) (end : Skipped) (table : List ℕ) : Type 0 where
-  pub beyond : length buffer < m → end ≡ Refused bad_marking (length buffer)
+pub record IsMarkingIn (places : List Place) (buffer : List ℕ) (m : ℕ) (end : Result ℕ Refusal) (table : List ℕ) : Type 0 where
+  pub beyond : length buffer < m → end ≡ Err (BadMarking (length buffer))
   pub within : m ≤ length buffer → IsMarking places (take m buffer) end table
 
 -- ── Bindings ──

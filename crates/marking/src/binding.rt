@@ -5,20 +5,16 @@ ghost use Rattle.net.specs.Places.{ranges_from};
 ghost use Rattle.marking.specs.Marked.{binding_read};
 
 use colours::values::read_values;
-use expression::read::Skipped;
+use semantics::refusal::Refusal;
 
-// The binding that the words are, of n variables whose ranges stand in the net from a position on.
-pub fn read_binding(net: &[u32], from: usize, n: usize, words: &[u32]) -> Skipped
+// Where the binding ends that the words are, of n variables whose ranges stand in the net from a position on.
+pub fn read_binding(net: &[u32], from: usize, n: usize, words: &[u32]) -> Result<usize, Refusal>
     requires { from + n ≤ length net.now }
     ensures { skipped result ≡ forget (binding_read (ranges_from net.now n from) words.now) }
 {
-    match read_values(words, 0, net, from, n) {
-        Skipped::Next(next) => {
-            if next < words.len() {
-                return Skipped::Refused(8, next);
-            }
-            Skipped::Next(next)
-        }
-        Skipped::Refused(_, q) => Skipped::Refused(8, q),
+    let next = read_values(words, 0, net, from, n).map_err(|e| Refusal::BadBinding(e.position()))?;
+    if next < words.len() {
+        return Err(Refusal::BadBinding(next));
     }
+    Ok(next)
 }

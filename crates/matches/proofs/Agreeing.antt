@@ -5,17 +5,17 @@ use mathlib.Core.List.{List, [], ◌∷◌}
 use mathlib.Core.Option.{Option, none, some, bind}
 use Prim.Native.Nat.{ℕ, ◌+◌, ◌%◌, ◌≤◌, ◌<◌}
 use native.Mathlib.Numerals.{add-one}
-use borrow.Author.Tests.{ne_eqb}
+use borrow.Author.Rules.{rules}
 use lib.IntN.{ℤ, pos}
 use lib.ListN.{length, get_or, get_elem?, set, take, drop, length-set, drop_of_length-le}
 use lib.Seq.{drop-cons, get_or-take, length-take-le}
-use Rattle.semantics.specs.Word.{kind, payload, signed, Range, within, value_word}
+use Rattle.semantics.specs.Word.{signed, Range, within, value_word}
 use Rattle.semantics.specs.Expression.{given}
 use Rattle.semantics.specs.Order.{same_integer}
 use Rattle.semantics.specs.Tries.{Partial, partly, bind_new, agree}
-use Rattle.numbers.specs.declared.number.Number.{Number}
-use Rattle.numbers.specs.declared.number.Number.TheVariants.{Some, None}
-use Rattle.numbers.specs.Number.{number}
+use Rattle.std.specs.Prelude as prelude
+use Rattle.std.specs.Prelude.{Some, None}
+use Rattle.semantics.specs.Answer.{option_of}
 use Rattle.word.specs.Fields.{range_word}
 use Rattle.evaluation.specs.Evaluate.{value_of}
 use Rattle.net.specs.Places.{ranges_from}
@@ -25,7 +25,7 @@ use Rattle.matches.specs.declared.colour.Met.{Met}
 use Rattle.matches.specs.declared.colour.Met.TheVariants.{Agrees, Differs, Takes}
 use Rattle.tries.specs.Partial.{partial_of}
 use Rattle.matches.specs.Met.{part_try, met_if, met_of, MetInside, IsMet, matched_by}
-use Rattle.tries.proofs.Slots.{slot_read, slot_beyond}
+use Rattle.tries.proofs.Slots.{slot_read, slot_beyond, tried_on}
 use Rattle.tries.proofs.Binding.{range-beyond, bind-outside, bind-inside}
 
 pub given-cond : {A : Type 0} (u : Bool) (a : A) → given u a ≡ cond u (some a) none
@@ -46,26 +46,22 @@ met_inside v false = tt
 met_if_lem : {v : ℕ} {b : List ℕ} {o : Option Partial} {r : Met} (u : Bool) → r ≡ met_if u → given u (partial_of v b) ≡ o → IsMet v b o r
 met_if_lem {v} {b} {o} u e f = subst (IsMet v b o) (sym e) (record { same = met_given v b u ∙ f; inside = met_inside v u })
 
--- the same, of an outcome that is equal
-met_same : {v : ℕ} {b : List ℕ} {o o' : Option Partial} {r : Met} → o ≡ o' → IsMet v b o r → IsMet v b o' r
-met_same {v} {b} {r = r} e m = subst (λ (x : Option Partial). IsMet v b x r) e m
-
 module _ (ws : List ℕ) (v at : ℕ) (b : List ℕ) (n : ℕ) (z : ℤ) where
   pub met_beyond : v ≤ n → IsMet v b (agree (ranges_from ws v at) (partial_of v b) n (partly (partial_of v b) n) z) Differs
   met_beyond h = record { same = rw (slot_beyond v n b h, range-beyond ws v at n h); inside = tt }
 
-  module _ (h : n < v) (x : Number) (e : number x ≡ value_of (get_or b n 0)) where
-    slot : partly (partial_of v b) n ≡ number x
+  module _ (h : n < v) (x : prelude.Option ℤ) (e : option_of x ≡ value_of (get_or b n 0)) where
+    slot : partly (partial_of v b) n ≡ option_of x
     slot = slot_read v n b h ∙ sym e
 
     pub met_old : {old : ℤ} (u : Bool) {r : Met} → x ≡ Some old → u ≡ same_integer old z → r ≡ met_if u → IsMet v b (agree (ranges_from ws v at) (partial_of v b) n (partly (partial_of v b) n) z) r
     met_old {old} u d f g =
-        let s : partly (partial_of v b) n ≡ some old = slot ∙ ap number d in
+        let s : partly (partial_of v b) n ≡ some old = slot ∙ ap option_of d in
         met_if_lem u g (rw (s, ← f) (given-cond u (partial_of v b)))
 
     new_slot : x ≡ None → {o : Option Partial} → o ≡ bind_new (partial_of v b) n (get_elem? (ranges_from ws v at) n) z → o ≡ agree (ranges_from ws v at) (partial_of v b) n (partly (partial_of v b) n) z
     new_slot d f =
-        let s : partly (partial_of v b) n ≡ none = slot ∙ ap number d in
+        let s : partly (partial_of v b) n ≡ none = slot ∙ ap option_of d in
         rw s f
 
     module _ (d : x ≡ None) {u : Bool} (f : u ≡ within (range_word (get_or ws (at + n) 0)) z) where
@@ -74,18 +70,6 @@ module _ (ws : List ℕ) (v at : ℕ) (b : List ℕ) (n : ℕ) (z : ℤ) where
 
       pub met_takes : {w : ℕ} → not u ≡ false → w ≡ value_word z → IsMet v b (agree (ranges_from ws v at) (partial_of v b) n (partly (partial_of v b) n) z) (Takes n w)
       met_takes k g = record { same = new_slot d (bind-inside ws v at b n z h f k g); inside = h }
-
-module _ (v : ℕ) (b : List ℕ) (ranges : List Range) (w : ℕ) (z : ℤ) {k : ℕ} (e : k ≡ kind w) where
-  pub part-constant : (u : Bool) {r : Met} → k ≡ 7 → u ≡ same_integer (signed (w % 16384)) z → r ≡ met_if u → IsMet v b (part_try ranges w z (partial_of v b)) r
-  part-constant u d f g = met_if_lem u g (rw (← e, d, f))
-
-  pub part-variable : {r : Met} {n : ℕ} → k ≡ 8 → n ≡ payload w → IsMet v b (agree ranges (partial_of v b) n (partly (partial_of v b) n) z) r → IsMet v b (part_try ranges w z (partial_of v b)) r
-  part-variable {n = n} d g m =
-      let s : agree ranges (partial_of v b) n (partly (partial_of v b) n) z ≡ part_try ranges w z (partial_of v b) = rw (← e, d, ← g) in
-      met_same s m
-
-  pub part_waits : (k ≡ 7 → ⊥) → (k ≡ 8 → ⊥) → IsMet v b (part_try ranges w z (partial_of v b)) Agrees
-  part_waits c d = record { same = rw (← e, ne_eqb k 7 c, ne_eqb k 8 d); inside = tt }
 
 -- ── A colour ──
 
@@ -133,3 +117,5 @@ module _ {ranges : List Range} {v : ℕ} {b ms : List ℕ} {at width : ℕ} {par
 -- the same, of slots that are equal
 pub held_same : {ranges : List Range} {v : ℕ} {b ms : List ℕ} {at width : ℕ} {parts : List ℕ} {i : ℕ} {cur cur' : List ℕ} → cur' ≡ cur → Agreeing ranges v b ms at width parts i cur → Agreeing ranges v b ms at width parts i cur'
 held_same {ranges} {v} {b} {ms} {at} {width} {parts} {i} e h = subst (Agreeing ranges v b ms at width parts i) (sym e) h
+
+pub ruleset agreeing = (rules, tried_on, held_start, held_same, held_stops, held_agrees, held_takes, takes_inside, held_ends)

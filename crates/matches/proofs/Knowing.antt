@@ -2,13 +2,13 @@
 -- most a variable that had no value, so what a component wants is wanted still when its turn comes; or one before it has failed already.
 use mathlib.Core.Path.{◌≡◌, refl, sym, ap, ◌∙◌}
 use mathlib.Core.Logic.{◌⊎◌, inl, inr}
-use mathlib.Core.Bool.{Bool, true, false, cond, ◌&&◌}
+use mathlib.Core.Bool.{Bool, true, false, cond}
 use mathlib.Core.List.{List, [], ◌∷◌}
 use mathlib.Core.Option.{Option, none, some, bind}
 use Prim.Native.Nat.{ℕ, zero, suc, ◌+◌, ◌*◌, ◌%◌, ◌^◌, ◌<◌}
 use native.Mathlib.Omega.{arith}
-use borrow.Author.Tests.{ltb-true, eqb-true, eqb-false}
-use lib.Dec.{eqb, ltb}
+use borrow.Author.Tests.{eqb-true, eqb-false}
+use lib.Dec.{eqb}
 use lib.IntN.{ℤ, pos}
 use lib.ListN.{length, get_or, set, take, replicate}
 use lib.Seq.{get_or-take, get_or-set_same, get_or-set_other}
@@ -16,20 +16,15 @@ use Rattle.semantics.specs.Word.{kind, payload, signed, Range, value_word}
 use Rattle.semantics.specs.Expression.{variable, given}
 use Rattle.semantics.specs.Order.{same_integer}
 use Rattle.semantics.specs.Tries.{Partial, partly, agree, matched}
-use Rattle.semantics.proofs.Tests.{either, integer_same, and_right}
+use Rattle.semantics.proofs.Tests.{either, integer_same}
 use Rattle.semantics.proofs.Members.{none-some, replicate-same}
 use Rattle.semantics.proofs.Words.{value_again}
 use Rattle.semantics.proofs.Extending.{Extends, matched_extends}
-use Rattle.numbers.specs.declared.number.Number.{Number}
-use Rattle.numbers.specs.declared.number.Number.TheVariants.{Some}
-use Rattle.numbers.specs.Number.{number}
-use Rattle.evaluation.specs.Evaluate.{value_of}
 use Rattle.colours.specs.Values.{values_at}
 use Rattle.colours.proofs.Comparing.{values_at_lem}
 use Rattle.tries.specs.Partial.{partial_of}
 use Rattle.matches.specs.Met.{part_try, matched_by}
 use Rattle.matches.specs.Known.{wanted, IsKnown, Knows, Differs}
-use Rattle.tries.proofs.Slots.{slot_read}
 
 -- ── Values of 14 bits ──
 
@@ -106,30 +101,6 @@ differs_fails {v} {b} {parts} {known} {ms} {at} {width} ranges k d =
 
 pub known-not : {o : Option ℤ} → IsKnown o 0
 known-not = record { right = λ h. absurd (h refl) }
-
--- a VALUE word that has a value has that of its low bits
-value_low : (w : ℕ) (z : ℤ) → value_of w ≡ some z → value_of w ≡ some (signed (w % 16384))
-value_low w z = by (eqb (kind w) 0xC && ltb (payload w) (2 ^ 14)) refl
-  where
-    by : (t : Bool) → (eqb (kind w) 0xC && ltb (payload w) (2 ^ 14)) ≡ t → given t (signed (payload w)) ≡ some z → given t (signed (payload w)) ≡ some (signed (w % 16384))
-    by true e h =
-        let l = ltb-true (payload w) (2 ^ 14) (and_right (eqb (kind w) 0xC) (ltb (payload w) (2 ^ 14)) e) in
-        let s : payload w ≡ w % 16384 = omega arith in
-        rw s
-    by false e h = none-some h
-
-module _ (v n : ℕ) (b : List ℕ) where
-  pub known_slot : {x : Number} {z : ℤ} → n < v → number x ≡ value_of (get_or b n 0) → x ≡ Some z → IsKnown (partly (partial_of v b) n) (get_or b n 0)
-  known_slot {x} {z} h e d = record { right = λ k. slot_read v n b h ∙ value_low (get_or b n 0) z (sym e ∙ ap number d) }
-
-module _ (p : Partial) (w : ℕ) {k : ℕ} (e : k ≡ kind w) where
-  pub known_constant : k ≡ 7 → IsKnown (wanted p w) (3221225472 + w % 16384)
-  known_constant d =
-      let s : (3221225472 + w % 16384) % 16384 ≡ w % 16384 = omega arith in
-      record { right = λ h. rw (← e, d, s) }
-
-  pub known-variable : {n r : ℕ} → k ≡ 8 → n ≡ payload w → IsKnown (partly p n) r → IsKnown (wanted p w) r
-  known-variable {n} {r} d g i = record { right = λ h. rw (← e, d, ← g) (i.right h) }
 
 -- ── Of each component ──
 

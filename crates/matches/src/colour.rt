@@ -8,7 +8,7 @@ ghost use Rattle.matches.specs.Met.{part_try, matched_by, IsMet, met_if};
 
 use colours::range::in_range;
 use evaluation::evaluate::value_of;
-use numbers::number::{Number, equal};
+use numbers::number::equal;
 use tries::partial::restore;
 use word::fields::{kind, payload, signed, value_word};
 
@@ -39,8 +39,8 @@ fn meet_variable(net: &[u32], ranges: usize, variables: usize, b: &[u32], n: usi
         return Met::Differs;
     }
     match value_of(b[n]) {
-        Number::Some(old) => met_if(equal(old, z)),
-        Number::None => {
+        Some(old) => met_if(equal(old, z)),
+        None => {
             if !in_range(net[ranges + n], z) {
                 return Met::Differs;
             }
@@ -80,8 +80,7 @@ pub fn match_colour(
     requires saved { IsSaved slots.old saved.now }
     ensures { IsTried variables (matched_by (ranges_from net.now variables ranges) (take width parts.now) (values_at marking.now width at) (partial_of variables slots.old)) slots.old result slots.new }
 {
-    let mut i = 0;
-    while i < width {
+    for i in 0..width {
         match meet_part(
             net,
             ranges,
@@ -99,7 +98,6 @@ pub fn match_colour(
                 slots[n] = w;
             }
         }
-        i += 1;
     }
     true
 }

@@ -6,7 +6,6 @@ ghost use Rattle.tries.specs.Partial.{partial_of};
 ghost use Rattle.matches.specs.Known.{wanted, IsKnown, Knows, DiffersIf};
 
 use evaluation::evaluate::value_of;
-use numbers::number::Number;
 use word::fields::{kind, payload};
 
 // The VALUE word of a variable that is bound, else 0.
@@ -18,8 +17,8 @@ fn known_variable(variables: usize, b: &[u32], n: usize) -> u32
         return 0;
     }
     match value_of(b[n]) {
-        Number::Some(_) => b[n],
-        Number::None => 0,
+        Some(_) => b[n],
+        None => 0,
     }
 }
 
@@ -48,10 +47,8 @@ pub fn known_parts(
     requires known_value { known.old ≡ replicate 4 0 }
     ensures { Knows variables b.now parts.now known.new }
 {
-    let mut i = 0;
-    while i < width {
+    for i in 0..width {
         known[i] = known_part(variables, b, parts[i]);
-        i += 1;
     }
 }
 
@@ -60,15 +57,11 @@ pub fn differs(marking: &[u32], at: usize, width: usize, known: &[u32; 4]) -> bo
     requires { (width ≤ 4) × (at + width ≤ length marking.now) }
     ensures { DiffersIf marking.now at width known.now result }
 {
-    let mut i = 0;
-    while i < width {
+    for i in 0..width {
         let w = known[i];
-        if w != 0 {
-            if marking[at + i] % 16384 != w % 16384 {
-                return true;
-            }
+        if w != 0 && marking[at + i] % 16384 != w % 16384 {
+            return true;
         }
-        i += 1;
     }
     false
 }

@@ -13,15 +13,17 @@ use lib.Dec.{leb, eqb}
 use lib.IntN.{ℤ}
 use lib.ListN.{length, take, drop, replicate, length-take, take-append-drop}
 use lib.Seq.{length-take-le, take_all}
-use Rattle.semantics.specs.declared.Listed.TheVariants.{Found, Refused as MenuRefused}
-use Rattle.semantics.specs.Refusal.{over_budget, over_menu, most_bindings}
+use Rattle.std.specs.Prelude.{Ok, Err}
+use Rattle.semantics.specs.declared.refusal.Refusal.TheVariants.{OverBudget, OverMenu}
+use Rattle.semantics.specs.Refusal.{most_bindings}
 use Rattle.semantics.specs.Word.{value_word}
 use Rattle.semantics.specs.Expression.{house_table}
 use Rattle.semantics.specs.Order.{insert_all}
 use Rattle.semantics.specs.Marking.{Proper}
 use Rattle.semantics.specs.Tries.{Partial, empty, all_tries, leaves}
 use Rattle.semantics.specs.Run.{menu, menu_fits, offer}
-use Rattle.semantics.specs.Calls.{Situation, listed_by}
+use Rattle.semantics.specs.Answer.{Found}
+use Rattle.semantics.specs.Calls.{Situation, MenuEnd, listed_by}
 use Rattle.semantics.proofs.Tests.{either, and_both}
 use Rattle.semantics.proofs.Leaves.{Sound, sound_empty}
 use Rattle.semantics.proofs.Menu.{found-menu}
@@ -123,6 +125,9 @@ module _ {ws ps : List ℕ} {position v : ℕ} {inputs conjuncts elements ms beg
 
   -- ── What it comes to ──
 
+  abbrev answered : ℕ → ℕ → List ℕ → MenuEnd
+  answered n w buffer = record { answer = Found n w; buffer = buffer }
+
   module _ (budget : ℕ) (buffer : List ℕ) {r : Progress} {m : List ℕ} (E : Ended v (most_rows (length buffer) v) budget 0 buffer 0 (listed []) (cost_from s s.transition.plan (partial_of v (take v (replicate 8 0)))) (rows_from s s.transition.plan (partial_of v (take v (replicate 8 0)))) r m) where
     offers : List (List ℤ)
     offers = menu house_table s.transition s.counts
@@ -149,7 +154,7 @@ module _ {ws ps : List ℕ} {position v : ℕ} {inputs conjuncts elements ms beg
         ∙ ap (λ (bs : List (List ℤ)). settle budget count (listed_if (leb (length bs) (most_rows (length buffer) v)) bs)) found
 
     -- 10
-    pub listed_10 : {z : List ℕ} → r.spent ≡ true → z ≡ replicate (length m) 0 → length m ≡ length buffer → menu_end (MenuRefused over_budget 0) z ≡ listed_by buffer (offer house_table s.net budget (length buffer) s.transition s.counts)
+    pub listed_10 : {z : List ℕ} → r.spent ≡ true → z ≡ replicate (length m) 0 → length m ≡ length buffer → menu_end (Err OverBudget) z ≡ listed_by buffer (offer house_table s.net budget (length buffer) s.transition s.counts)
     unfolding offer count offers
     listed_10 {z} d e l =
         let x : exhausted ≡ settle budget count (listed_if (leb (length offers) (most_rows (length buffer) v)) offers) = rw d at outcome in
@@ -170,7 +175,7 @@ module _ {ws ps : List ℕ} {position v : ℕ} {inputs conjuncts elements ms beg
       listing = (settled_on budget r.tries count _ _ on).listing
 
       -- 11
-      pub listed_11 : {z : List ℕ} → r.full ≡ true → z ≡ replicate (length m) 0 → length m ≡ length buffer → menu_end (MenuRefused over_menu 0) z ≡ listed_by buffer (offer house_table s.net budget (length buffer) s.transition s.counts)
+      pub listed_11 : {z : List ℕ} → r.full ≡ true → z ≡ replicate (length m) 0 → length m ≡ length buffer → menu_end (Err OverMenu) z ≡ listed_by buffer (offer house_table s.net budget (length buffer) s.transition s.counts)
       unfolding offer count offers
       listed_11 {z} g e l =
           let x : over ≡ listed_if (leb (length offers) (most_rows (length buffer) v)) offers = rw g at listing in
@@ -183,7 +188,7 @@ module _ {ws ps : List ℕ} {position v : ℕ} {inputs conjuncts elements ms beg
           by false h = refl
 
       -- N and W
-      pub listed_found : r.full ≡ false → menu_end (Found r.rows r.tries) m ≡ listed_by buffer (offer house_table s.net budget (length buffer) s.transition s.counts)
+      pub listed_found : r.full ≡ false → menu_end (Ok (record { bindings = r.rows; tries = r.tries })) m ≡ listed_by buffer (offer house_table s.net budget (length buffer) s.transition s.counts)
       unfolding offer count offers
       listed_found g =
           let x : listed (rows_of v r.rows m) ≡ listed_if (leb (length offers) (most_rows (length buffer) v)) offers = rw g at listing in
@@ -196,9 +201,9 @@ module _ {ws ps : List ℕ} {position v : ℕ} {inputs conjuncts elements ms beg
           let o : length (take (r.rows * v) m) ≡ r.rows * v = length-take-le (r.rows * v) m k.room in
           let b : m ≡ take (r.rows * v) m ++ drop (length (take (r.rows * v) m)) buffer = sym (take-append-drop (r.rows * v) m) ∙ ap (λ (l : List ℕ). take (r.rows * v) m ++ l) (E.beyond ∙ ap (λ (j : ℕ). drop j buffer) (sym o)) in
           rw (paid, q, w)
-          (ap (λ (l : List ℕ). menu_end (Found r.rows r.tries) l) b
-          ∙ ap (λ (j : ℕ). menu_end (Found j r.tries) (take (r.rows * v) m ++ drop (length (take (r.rows * v) m)) buffer)) n
-          ∙ ap (λ (j : ℕ). menu_end (Found (length (menu house_table s.transition s.counts)) j) (take (r.rows * v) m ++ drop (length (take (r.rows * v) m)) buffer)) t)
+          (ap (λ (l : List ℕ). answered r.rows r.tries l) b
+          ∙ ap (λ (j : ℕ). answered j r.tries (take (r.rows * v) m ++ drop (length (take (r.rows * v) m)) buffer)) n
+          ∙ ap (λ (j : ℕ). answered (length (menu house_table s.transition s.counts)) j (take (r.rows * v) m ++ drop (length (take (r.rows * v) m)) buffer)) t)
         where
           by : (u : Bool) → listed (rows_of v r.rows m) ≡ listed_if u offers → (u ≡ true) × (rows_of v r.rows m ≡ offers)
           by true h = (refl, cc)

@@ -5,24 +5,25 @@ use Prim.Native.Nat.{ℕ, ◌+◌, ◌-◌}
 use native.Mathlib.Omega.{arith}
 use lib.ListN.{length, take, drop}
 use Rattle.semantics.specs.declared.Listed.{Listed}
-use Rattle.semantics.specs.declared.Listed.TheVariants.{Refused as MenuRefused}
+use Rattle.std.specs.Prelude.{Result, Err}
+use Rattle.semantics.specs.declared.refusal.Refusal.{Refusal}
+use Rattle.semantics.specs.Answer.{refusing}
 use Rattle.semantics.specs.Expression.{house_table}
 use Rattle.semantics.specs.Run.{offer}
 use Rattle.semantics.specs.Marking.{counts_of}
-use Rattle.semantics.specs.Calls.{Situation, listed_by, menu_call}
+use Rattle.semantics.specs.Calls.{Situation, situation, listed_by, menu_call}
 use Rattle.semantics.proofs.Members.{at_member_lem}
 use Rattle.semantics.proofs.Accepted.{accepted_planned}
-use Rattle.expression.specs.declared.read.Skipped.TheVariants.{Refused}
 use Rattle.net.specs.Skim.{Outline}
-use Rattle.situations.specs.Situation.{Index, outlined, Prepared, IsSituation}
+use Rattle.situations.specs.Situation.{Index, outlined, Prepared}
 use Rattle.arrivals.specs.World.{World}
 use Rattle.search.specs.Scene.{scene_of}
 use Rattle.search.specs.Search.{menu_end}
 use Rattle.menus.specs.Menu.{IsListed}
 
-pub menu-refused : (ws : List ℕ) (t : ℕ) (ms : List ℕ) (budget : ℕ) (buffer : List ℕ) {r : Index} {n p : ℕ} → IsSituation ws t ms r → r.end ≡ Refused n p → menu_end (MenuRefused n p) buffer ≡ menu_call ws t ms budget buffer
+pub menu-refused : (ws : List ℕ) (t : ℕ) (ms : List ℕ) (budget : ℕ) (buffer : List ℕ) (e : Refusal) → situation ws t ms ≡ refusing e → menu_end (Err e) buffer ≡ menu_call ws t ms budget buffer
 unfolding menu_call
-menu-refused ws t ms budget buffer {n = n} {p = p} i e = rw (i.refuses n p e)
+menu-refused ws t ms budget buffer e i = rw i
 
 module _ {ws : List ℕ} {t : ℕ} {ms : List ℕ} {r : Index} (P : Prepared ws t ms r) where
   -- net, transition and counts that were prepared
@@ -61,6 +62,6 @@ module _ {ws : List ℕ} {t : ℕ} {ms : List ℕ} {r : Index} (P : Prepared ws 
         beginnings = l;
       }
 
-  pub menu-listed : {budget : ℕ} {buffer : List ℕ} {a : Listed} {after : List ℕ} → IsListed ws r.position ms budget buffer a after → menu_end a after ≡ menu_call ws t ms budget buffer
+  pub menu-listed : {budget : ℕ} {buffer : List ℕ} {a : Result Listed Refusal} {after : List ℕ} → IsListed ws r.position ms budget buffer a after → menu_end a after ≡ menu_call ws t ms budget buffer
   unfolding menu_call
   menu-listed {budget} {buffer} i = i.listed ∙ ap (λ (s : Situation). listed_by buffer (offer house_table s.net budget (length buffer) s.transition s.counts)) scene_is ∙ rw P.same

@@ -1,5 +1,5 @@
 // The call menu: every enabled binding of a transition in a marking, once, by rising variable 0, then 1 and on.
-ghost use Rattle.std.specs.Prelude.{◌≡◌, length, replicate};
+ghost use Rattle.std.specs.Prelude.{◌≡◌};
 ghost use Rattle.semantics.specs.Calls.{menu_call};
 ghost use Rattle.search.specs.Search.{menu_end};
 ghost use Rattle.arrivals.specs.World.{World};
@@ -7,9 +7,9 @@ ghost use Rattle.search.specs.Scene.{scene_of};
 ghost use Rattle.spares.specs.Spare.{Unspared};
 ghost use Rattle.menus.specs.Menu.{most_rows, IsListed};
 
-use expression::read::Skipped;
 use plan_search::plan::search_plan;
 use semantics::Listed;
+use semantics::refusal::Refusal;
 use situations::situation::prepare;
 use spares::spare::leave_out;
 use word::size::at_most;
@@ -22,17 +22,6 @@ fn most_rows(room: usize, width: usize) -> usize
         return 16383;
     }
     at_most(16383, room / width)
-}
-
-// Writes zeros to the whole of a buffer.
-pub fn clear(buffer: &mut [u32])
-    ensures { buffer.new ≡ replicate (length buffer.old) 0 }
-{
-    let mut i = 0;
-    while i < buffer.len() {
-        buffer[i] = 0;
-        i += 1;
-    }
 }
 
 // 10 where the tries pass the budget, 11 where the bindings do not fit, and then the menu is cleared; or N and W. The conjuncts, input arcs and
@@ -50,7 +39,7 @@ pub fn list_bindings(
     begins: &[usize],
     budget: u32,
     menu: &mut [u32],
-) -> Listed
+) -> Result<Listed, Refusal>
     requires world { World net.now places.now position variables inputs.now conjuncts.now elements.now marking.now begins.now (scene_of net.now position marking.now) }
     requires unspared { Unspared net.now places.now inputs.now elements.now tested.now }
     ensures { IsListed net.now position marking.now budget menu.old result menu.new }
@@ -74,14 +63,17 @@ pub fn list_bindings(
         budget,
     );
     if end.spent {
-        clear(menu);
-        return Listed::Refused(10, 0);
+        menu.fill(0);
+        return Err(Refusal::OverBudget);
     }
     if end.full {
-        clear(menu);
-        return Listed::Refused(11, 0);
+        menu.fill(0);
+        return Err(Refusal::OverMenu);
     }
-    Listed::Found(end.rows as u32, end.tries)
+    Ok(Listed {
+        bindings: end.rows as u32,
+        tries: end.tries,
+    })
 }
 
 // As above for one search of the transition, so the arcs that its leaves look up are made out here.
@@ -97,7 +89,7 @@ fn list_once(
     begins: &[usize],
     budget: u32,
     menu: &mut [u32],
-) -> Listed
+) -> Result<Listed, Refusal>
     requires { World net.now places.now position variables inputs.now conjuncts.now elements.now marking.now begins.now (scene_of net.now position marking.now) }
     ensures { IsListed net.now position marking.now budget menu.old result menu.new }
 {
@@ -120,7 +112,13 @@ fn list_once(
 }
 
 // The first refusal of net, transition and marking, in that order; then as above.
-pub fn menu(net: &[u32], transition: u32, marking: &[u32], budget: u32, menu: &mut [u32]) -> Listed
+pub fn menu(
+    net: &[u32],
+    transition: u32,
+    marking: &[u32],
+    budget: u32,
+    menu: &mut [u32],
+) -> Result<Listed, Refusal>
     ensures { menu_end result menu.new ≡ menu_call net.now transition marking.now budget menu.old }
 {
     let mut places_at = [0usize; 64];
@@ -133,30 +131,20 @@ pub fn menu(net: &[u32], transition: u32, marking: &[u32], budget: u32, menu: &m
         &mut places_at,
         &mut own,
         &mut begins,
-    );
-    let end = s.end;
-    match end {
-        Skipped::Refused(n, p) => Listed::Refused(n, p),
-        Skipped::Next(_) => {
-            let places = s.places;
-            let t = s.transition;
-            let conjuncts = t.conjuncts;
-            let inputs = t.inputs;
-            let elements = t.elements;
-            let own = &own[..];
-            list_once(
-                net,
-                &places_at[..places],
-                s.position,
-                t.variables,
-                &own[16..16 + conjuncts],
-                &own[..inputs],
-                &own[24..24 + elements],
-                marking,
-                &begins[..],
-                budget,
-                menu,
-            )
-        }
-    }
+    )?;
+    let t = s.transition;
+    let own = &own[..];
+    list_once(
+        net,
+        &places_at[..s.places],
+        s.position,
+        t.variables,
+        &own[16..16 + t.conjuncts],
+        &own[..t.inputs],
+        &own[24..24 + t.elements],
+        marking,
+        &begins[..],
+        budget,
+        menu,
+    )
 }

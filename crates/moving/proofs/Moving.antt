@@ -22,7 +22,7 @@ use Rattle.patch.specs.Patch.{Change, change_key, old_length, new_length, old_be
 use Rattle.changes.specs.Changes.{entry_size}
 use Rattle.changes.proofs.Counting.{key-size}
 use Rattle.changes.specs.Tables.{row_at, rows_from, listed}
-use Rattle.moving.specs.Moves.{row_place, Movable, IsMoved}
+use Rattle.moving.specs.Moves.{row_place, Movable}
 use Rattle.changes.proofs.Rows.{rows_next}
 
 -- ── Changes below a place ──
@@ -88,17 +88,6 @@ module _ {ws ps keys olds counts : List ℕ} {n : ℕ} {begins₀ : List ℕ} wh
             new_below_lem = λ k h. rw z (omega arith);
             done = λ k h i. let x = rw z at (rest-none ws ps keys olds counts n q.ats 0 k (rw z q.rises) (omega arith)) in omega (arith, x.0, x.1);
           }
-
-  pub start-low : {r : ℕ} → Movable ws ps keys olds counts n begins₀ → r ≡ row_place keys n 0 → r ≤ 65
-  start-low {r} Q e = by (either (ltb 0 n))
-    where
-      by : (ltb 0 n ≡ true) ⊎ (ltb 0 n ≡ false) → r ≤ 65
-      by (inl t) =
-          let s = rw t at e in
-          let h = Q.tabled.there 0 (ltb-true 0 n t) in
-          let f = Q.fits.few in
-          omega arith
-      by (inr t) = let s = rw t at e in omega arith
 
   module _ {begins : List ℕ} {row p old new : ℕ} (a : Moving ws ps keys olds counts n begins₀ begins row p old new) (Q : Movable ws ps keys olds counts n begins₀) (h : p ≤ length ps) where
     -- a row, not behind the last
@@ -195,6 +184,3 @@ module _ {ws ps keys olds counts : List ℕ} {n : ℕ} {begins₀ : List ℕ} wh
                   let b = a.kept p (omega arith) in
                   rw (i, s, ← x.0, ← x.1) (omega arith)
               done k j (inr i) = rw (get_or-set_other begins p k (get_or begins p 0 + new - old) 0 (λ e. omega arith)) ((a.by q).done k i j)
-
-  pub moving-end : {begins : List ℕ} {row p old new : ℕ} → Moving ws ps keys olds counts n begins₀ begins row p old new → length ps < p → IsMoved ws ps keys olds counts n begins₀ begins
-  moving-end a h = record { moves = λ q k i. (a.by q).done k (omega arith) i }

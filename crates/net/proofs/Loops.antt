@@ -5,13 +5,14 @@ use Prim.Native.Nat.{ℕ, suc, ◌+◌, ◌-◌, ◌≤◌, ◌<◌}
 use mathlib.Core.List.{List, [], ◌∷◌, ◌++◌, append_assoc, append-nil}
 use native.Mathlib.Numerals.{add-one}
 use native.Mathlib.Omega.{arith}
+use Rattle.std.specs.Prelude.{Result, Ok, Err}
 use lib.ListN.{length, take, set}
 use lib.Seq.{take-suc-set}
 use Rattle.semantics.specs.Reading.{Reading, read, refused, then, Reader}
 use Rattle.semantics.proofs.Spans.{refused-read}
 use borrow.Author.Rules.{rules}
-use Rattle.expression.specs.declared.read.Skipped.{Skipped}
-use Rattle.expression.specs.declared.read.Skipped.TheVariants.{Next, Refused}
+use Rattle.semantics.specs.declared.refusal.Refusal.{Refusal}
+use Rattle.semantics.specs.Answer.{refusing}
 use Rattle.expression.specs.Skip.{forget, skipped}
 use Rattle.net.specs.Skim.{changed, starts}
 
@@ -50,11 +51,6 @@ changed-same (refused n p) = refl
 pub record Ahead (R : Reader (Unit {0})) (n at i next : ℕ) : Type 0 where
   pub inside : i ≤ n
   pub same : forget (starts (n - i) R next) ≡ forget (starts n R at)
-
-pub ahead_start : (R : Reader (Unit {0})) (n at : ℕ) → Ahead R n at 0 at
-ahead_start R n at =
-    let e : n - 0 ≡ n = omega arith in
-    record { inside = omega arith; same = rw e }
 
 module _ {R : Reader (Unit {0})} {n at i next : ℕ} (a : Ahead R n at i next) where
   pub ahead_turn : (p : ℕ) → i < n → R next ≡ read tt p → Ahead R n at (i + 1) p
@@ -139,18 +135,18 @@ module _ {R : Reader (Unit {0})} {n at i next : ℕ} {begins : List ℕ} (a : Co
 
 -- ── By the answers of the code ──
 
-module _ {R : Reader (Unit {0})} {n at i next : ℕ} {r : Skipped} (a : Ahead R n at i next) (h : i < n) (s : skipped r ≡ R next) where
-  pub ahead_goes : {p : ℕ} → r ≡ Next p → Ahead R n at (i + 1) p
+module _ {R : Reader (Unit {0})} {n at i next : ℕ} {r : Result ℕ Refusal} (a : Ahead R n at i next) (h : i < n) (s : skipped r ≡ R next) where
+  pub ahead_goes : {p : ℕ} → r ≡ Ok p → Ahead R n at (i + 1) p
   ahead_goes {p} e = ahead_turn a p h (sym s ∙ ap skipped e)
 
-  pub ahead_stops : {m q : ℕ} → r ≡ Refused m q → refused m q ≡ forget (starts n R at)
-  ahead_stops {m} {q} e = ahead_refused a m q h (sym s ∙ ap skipped e)
+  pub ahead_stops : {e : Refusal} → r ≡ Err e → refusing e ≡ forget (starts n R at)
+  ahead_stops e = ahead_refused a _ _ h (sym s ∙ ap skipped e)
 
-module _ {R : Reader (Unit {0})} {n at i next : ℕ} {begins : List ℕ} {r : Skipped} (a : Collected R n at i next begins) (h : i < n) (s : skipped r ≡ R next) where
-  pub collected_goes : {p : ℕ} → n ≤ length begins → r ≡ Next p → Collected R n at (i + 1) p (set begins i next)
+module _ {R : Reader (Unit {0})} {n at i next : ℕ} {begins : List ℕ} {r : Result ℕ Refusal} (a : Collected R n at i next begins) (h : i < n) (s : skipped r ≡ R next) where
+  pub collected_goes : {p : ℕ} → n ≤ length begins → r ≡ Ok p → Collected R n at (i + 1) p (set begins i next)
   collected_goes {p} l e = collected_turn a p h l (sym s ∙ ap skipped e)
 
-  pub collected_stops : {m q : ℕ} → r ≡ Refused m q → refused m q ≡ starts n R at
-  collected_stops {m} {q} e = collected_refused a m q h (sym s ∙ ap skipped e)
+  pub collected_stops : {e : Refusal} → r ≡ Err e → refusing e ≡ starts n R at
+  collected_stops e = collected_refused a _ _ h (sym s ∙ ap skipped e)
 
 pub ruleset looping = (rules, ahead_goes, ahead_stops, ahead_end, collected_goes, collected_stops, collected_end)

@@ -6,39 +6,40 @@ use mathlib.Core.Bool.{true, ◌&&◌}
 use mathlib.Core.List.{List, [], ◌∷◌, ◌++◌, map, zip, zip_with}
 use borrow.Author.Rules.{rules}
 use native.Mathlib.Omega.{arith}
+use Rattle.std.specs.Prelude.{Result, Ok, Err}
 use lib.ListN.{length, take, set}
 use lib.Seq.{length-take-le}
 use Rattle.semantics.specs.Word.{only, between}
 use Rattle.semantics.specs.Reading.{Reading, read, refused, then}
 use Rattle.semantics.proofs.Tests.{and_left, and_right}
 use Rattle.semantics.proofs.Accepted.{between_true}
-use Rattle.expression.specs.declared.read.Skipped.{Skipped}
-use Rattle.expression.specs.declared.read.Skipped.TheVariants.{Next, Refused}
+use Rattle.semantics.specs.declared.refusal.Refusal.{Refusal}
+use Rattle.semantics.specs.Answer.{refusing}
 use Rattle.expression.specs.Skip.{forget, skipped}
-use Rattle.kinds.specs.declared.take.Taken.{Taken}
-use Rattle.kinds.specs.declared.take.Taken.TheVariants.{Word, Refused as TakeRefused}
 use Rattle.kinds.specs.Taken.{fits_kind, Takes, IsTaken}
-use Rattle.net.specs.Skim.{changed, starts, skim_range, skim_one, skim_place, skim_places, skim_transitions, NetOutline, skim_net}
-use Rattle.net.specs.Index.{up_to}
-use Rattle.net.proofs.Structures.{word-refused, word-taken, next_fits}
+use Rattle.net.specs.Skim.{changed, starts, skim_range, skim_one, skim_place, skim_places, skim_transitions, skim_net}
+use Rattle.net.specs.declared.index.PlaceIndex.{PlaceIndex}
+use Rattle.net.specs.Index.{up_to, place_read}
+use Rattle.net.proofs.Structures.{word-refused, word-taken}
 use Rattle.net.proofs.Loops.{Gathered, gathered-start, gathered_turn, gathered-refused, gathered-end, take-set}
-use Rattle.net.proofs.Transitions.{then_gives, up_to-refused}
+use Rattle.net.proofs.Transitions.{then_gives}
 
 -- ── A place ──
 
-module _ (ws : List ℕ) (at : ℕ) {t : Taken} (w : IsTaken ws at 2 t) where
-  pub place-refused : {m s : ℕ} → t ≡ TakeRefused m s → refused m s ≡ skim_place ws at
+module _ (ws : List ℕ) (at : ℕ) {t : Result ℕ Refusal} (w : IsTaken ws at 2 t) where
+  pub place-refused : {e : Refusal} → t ≡ Err e → refusing e ≡ skim_place ws at
   unfolding skim_place
   place-refused e = rw (word-refused w e)
 
-  module _ {p : ℕ} (e : t ≡ Word p) where
-    pub place-ranges : (end : Skipped) → skipped end ≡ forget (starts p (skim_range ws) (at + 1)) → up_to end p ≡ skim_place ws at
-    unfolding skim_place skim_one
-    place-ranges end a = rw (word-taken w e, ← a) (by end)
-      where
-        by : (end : Skipped) → up_to end p ≡ then (skipped end) (λ u next. read p next)
-        by (Next n) = refl
-        by (Refused m q) = refl
+  module _ {p : ℕ} (e : t ≡ Ok p) where
+    module _ {r : Result ℕ Refusal} (a : skipped r ≡ forget (starts p (skim_range ws) (at + 1))) where
+      pub place-stops : {e : Refusal} → r ≡ Err e → refusing e ≡ skim_place ws at
+      unfolding skim_place skim_one
+      place-stops d = rw (word-taken w e, ← a, d)
+
+      pub place-ends : {next : ℕ} → r ≡ Ok next → read p next ≡ skim_place ws at
+      unfolding skim_place skim_one
+      place-ends d = rw (word-taken w e, ← a, d)
 
 -- ── Places: what is still ahead is what was ahead at first ──
 
@@ -81,18 +82,18 @@ module _ {ws : List ℕ} {n at i next : ℕ} {begins widths : List ℕ} (a : Pla
       let j : n ≡ i = omega arith in
       ap (λ (k : ℕ). read (zip (take k begins) (take k widths)) next) j ∙ gathered-end a.gathered h refl
 
-  module _ (h : i < n) {end : Skipped} (width : ℕ) (s : up_to end width ≡ skim_place ws next) where
-    pub placed_goes : {p : ℕ} → n ≤ length begins → n ≤ length widths → end ≡ Next p → Placed ws n at (i + 1) p (set begins i next) (set widths i width)
+  module _ (h : i < n) {r : Result PlaceIndex Refusal} (s : place_read r ≡ skim_place ws next) where
+    pub placed_goes : {p : PlaceIndex} → n ≤ length begins → n ≤ length widths → r ≡ Ok p → Placed ws n at (i + 1) p.end (set begins i next) (set widths i p.width)
     placed_goes {p} l k d =
-        let e : skim_place ws next ≡ read width p = rw (← s, d) in
+        let e : skim_place ws next ≡ read p.width p.end = rw (← s, d) in
         record {
           gathered =
-              rw (take-set begins i next (omega arith), take-set widths i width (omega arith), zip_snoc (take i begins) (take i widths) next width (taken_alike begins widths i (omega arith) (omega arith)))
-              (gathered_turn a.gathered p (next, width) h (λ k. places-read ws k next width p e));
+              rw (take-set begins i next (omega arith), take-set widths i p.width (omega arith), zip_snoc (take i begins) (take i widths) next p.width (taken_alike begins widths i (omega arith) (omega arith)))
+              (gathered_turn a.gathered p.end (next, p.width) h (λ k. places-read ws k next p.width p.end e));
         }
 
-    pub placed-stops : {m q : ℕ} → end ≡ Refused m q → refused m q ≡ skim_places n ws at
-    placed-stops {m} {q} d = gathered-refused a.gathered m q h (λ k. places-refused ws k next m q (rw (← s, d)))
+    pub placed-stops : {e : Refusal} → r ≡ Err e → refusing e ≡ skim_places n ws at
+    placed-stops d = gathered-refused a.gathered _ _ h (λ k. places-refused ws k next _ _ (rw (← s, d)))
 
 -- ── A net ──
 
@@ -103,12 +104,12 @@ seconds [] (b ∷ ys) l = absurd (omega arith)
 seconds (a ∷ xs) [] l = absurd (omega arith)
 seconds (a ∷ xs) (b ∷ ys) l = ap (λ (r : List ℕ). b ∷ r) (seconds xs ys (omega arith))
 
-module _ (ws : List ℕ) (at : ℕ) {t : Taken} (w : IsTaken ws at 1 t) where
-  pub net-refused : {m s : ℕ} → t ≡ TakeRefused m s → refused m s ≡ skim_net ws at
+module _ (ws : List ℕ) (at : ℕ) {t : Result ℕ Refusal} (w : IsTaken ws at 1 t) where
+  pub net-refused : {e : Refusal} → t ≡ Err e → refusing e ≡ skim_net ws at
   unfolding skim_net
   net-refused e = rw (word-refused w e)
 
-  module _ {p : ℕ} (e : t ≡ Word p) where
+  module _ {p : ℕ} (e : t ≡ Ok p) where
     word_fits : (only 16 p && between 1 64 (p / 256 % 256) && between 1 64 (p / 1 % 256)) ≡ true
     unfolding fits_kind
     word_fits = (subst (Takes ws at 1) e w.exists).fits
@@ -119,20 +120,20 @@ module _ (ws : List ℕ) (at : ℕ) {t : Taken} (w : IsTaken ws at 1 t) where
     pub few-transitions : p % 256 ≤ 64
     few-transitions = let few = (between_true 1 64 (p / 1 % 256) (and_right (only 16 p && between 1 64 (p / 256 % 256)) (between 1 64 (p / 1 % 256)) word_fits)).1 in omega arith
 
-    module _ {end : Skipped} (ps : List (ℕ × ℕ)) (a : up_to end ps ≡ skim_places (p / 256 % 256) ws (at + 1)) where
-      pub net-stops : {m q : ℕ} (o : NetOutline) → end ≡ Refused m q → up_to end o ≡ skim_net ws at
+    module _ {end : Result ℕ Refusal} (ps : List (ℕ × ℕ)) (a : up_to end ps ≡ skim_places (p / 256 % 256) ws (at + 1)) where
+      pub net-stops : {e : Refusal} → end ≡ Err e → refusing e ≡ skim_net ws at
       unfolding skim_net
-      net-stops o d = up_to-refused o (rw (word-taken w e, ← a, d)) d
+      net-stops d = rw (word-taken w e, ← a, d)
 
-      transitions-left : {n : ℕ} → end ≡ Next n → skim_net ws at ≡ then (starts (p % 256) (skim_transitions ws (map (λ (p : ℕ × ℕ). p.1) ps)) n) (λ ts m. read (record { places = ps; transitions = ts }) m)
+      transitions-left : {n : ℕ} → end ≡ Ok n → skim_net ws at ≡ then (starts (p % 256) (skim_transitions ws (map (λ (p : ℕ × ℕ). p.1) ps)) n) (λ ts m. read (record { places = ps; transitions = ts }) m)
       unfolding skim_net
       transitions-left d = let h : p / 1 ≡ p = omega arith in rw (word-taken w e, ← a, d, h)
 
-    pub net-ends : {end : Skipped} (begins widths : List ℕ) {n : ℕ} (last : Skipped) (ts : List ℕ) → up_to end (zip (take (p / 256 % 256) begins) (take (p / 256 % 256) widths)) ≡ skim_places (p / 256 % 256) ws (at + 1) → end ≡ Next n → up_to last ts ≡ starts (p % 256) (skim_transitions ws (take (p / 256 % 256) widths)) n → length begins ≡ 64 → length widths ≡ 64 → up_to last (record { places = zip (take (p / 256 % 256) begins) (take (p / 256 % 256) widths); transitions = ts }) ≡ skim_net ws at
+    pub net-ends : {end : Result ℕ Refusal} (begins widths : List ℕ) {n : ℕ} (last : Result ℕ Refusal) (ts : List ℕ) → up_to end (zip (take (p / 256 % 256) begins) (take (p / 256 % 256) widths)) ≡ skim_places (p / 256 % 256) ws (at + 1) → end ≡ Ok n → up_to last ts ≡ starts (p % 256) (skim_transitions ws (take (p / 256 % 256) widths)) n → length begins ≡ 64 → length widths ≡ 64 → up_to last (record { places = zip (take (p / 256 % 256) begins) (take (p / 256 % 256) widths); transitions = ts }) ≡ skim_net ws at
     net-ends begins widths last ts a d b l k =
         let f = few-places in
         let v = seconds (take (p / 256 % 256) begins) (take (p / 256 % 256) widths) (taken_alike begins widths (p / 256 % 256) (omega arith) (omega arith)) in
         then_gives last ts (λ ts. record { places = zip (take (p / 256 % 256) begins) (take (p / 256 % 256) widths); transitions = ts }) b
         ∙ sym (transitions-left (zip (take (p / 256 % 256) begins) (take (p / 256 % 256) widths)) a d ∙ rw v)
 
-pub ruleset netting = (rules, next_fits, place-refused, place-ranges, placed_end, placed_goes, placed-stops)
+pub ruleset netting = (rules, place-refused, place-stops, place-ends, placed_end, placed_goes, placed-stops)

@@ -3,6 +3,7 @@
 use mathlib.Core.Path.{◌≡◌, sym, ap, ◌∙◌}
 use mathlib.Core.List.{List, map}
 use Prim.Native.Nat.{ℕ, ◌*◌, ◌/◌, ◌%◌, ◌<◌}
+use Rattle.std.specs.Prelude.{Result}
 use native.Mathlib.Omega.{arith}
 use lib.ListN.{length, get_or, take, drop, length-map, length-take}
 use lib.Seq.{take_all, take-take}
@@ -17,9 +18,9 @@ use Rattle.net.specs.declared.index.Parts.{Parts}
 use Rattle.net.specs.Skim.{Outline, outline, width}
 use Rattle.net.specs.Index.{outlined, parts_of, AreParts}
 use Rattle.net.specs.Parted.{FewParts, Parted}
-use Rattle.expression.specs.declared.read.Skipped.{Skipped}
+use Rattle.semantics.specs.declared.refusal.Refusal.{Refusal}
 use Rattle.net.proofs.Tables.{own-part}
-use Rattle.net.proofs.Placed.{word-here, parts-outline}
+use Rattle.net.proofs.Placed.{word-here, parts-outline, parts-there}
 
 -- ── The numbers of a TRANSITION word ──
 
@@ -79,15 +80,15 @@ take_exact l r n k e h =
     sym (take-take k n l (omega arith)) ∙ ap (take k) e ∙ take_all k r (omega arith)
 
 -- the 32 numbers that were read are those of the transition
-pub parted : (ws : List ℕ) (places : List Place) (at : ℕ) (own : List ℕ) {r : Parts} → AreParts ws (map width places) at own r → (t : Transition) (next : ℕ) → read_transition ws places at ≡ read t next → Parted (get_or ws at 0) own (outline t)
-parted ws places at own {r} x t next e =
+pub parted : (ws : List ℕ) (places : List Place) (at : ℕ) (own : List ℕ) (r : Result (Parts × ℕ) Refusal) → AreParts ws (map width places) at own r → (t : Transition) (next : ℕ) → read_transition ws places at ≡ read t next → Parted (get_or ws at 0) own (outline t)
+parted ws places at own r x t next e =
     record {
       few = head_few ws places at t next e;
       variables = sym n.variables;
-      inputs = take_exact own (outline t).inputs r.inputs (head / 16 % 16) (ap (λ (o : Outline). o.inputs) same) (length-map t.inputs (λ (q : Arc). q.position) ∙ n.inputs);
-      outputs = take_exact (drop 8 own) (outline t).outputs r.outputs (head / 256 % 16) (ap (λ (o : Outline). o.outputs) same) (length-map t.outputs (λ (q : Arc). q.position) ∙ n.outputs);
-      guard = take_exact (drop 16 own) (outline t).guard r.conjuncts (head / 4096 % 16) (ap (λ (o : Outline). o.guard) same) (length-map t.guard (λ (q : Conjunct). q.position) ∙ n.guard);
-      plan = take_exact (drop 24 own) (outline t).plan r.elements (head / 65536 % 16) (ap (λ (o : Outline). o.plan) same) (length-map t.plan (λ (q : Element). q.position) ∙ n.plan);
+      inputs = take_exact own (outline t).inputs p.0.inputs (head / 16 % 16) (ap (λ (o : Outline). o.inputs) p.1) (length-map t.inputs (λ (q : Arc). q.position) ∙ n.inputs);
+      outputs = take_exact (drop 8 own) (outline t).outputs p.0.outputs (head / 256 % 16) (ap (λ (o : Outline). o.outputs) p.1) (length-map t.outputs (λ (q : Arc). q.position) ∙ n.outputs);
+      guard = take_exact (drop 16 own) (outline t).guard p.0.conjuncts (head / 4096 % 16) (ap (λ (o : Outline). o.guard) p.1) (length-map t.guard (λ (q : Conjunct). q.position) ∙ n.guard);
+      plan = take_exact (drop 24 own) (outline t).plan p.0.elements (head / 65536 % 16) (ap (λ (o : Outline). o.plan) p.1) (length-map t.plan (λ (q : Element). q.position) ∙ n.plan);
     }
   where
     head : ℕ
@@ -96,12 +97,12 @@ parted ws places at own {r} x t next e =
     n : Counted (get_or ws at 0) t
     n = head-counts ws places at t next e
 
-    same : outlined r own ≡ outline t
-    same = parts-outline ws places at own x t next e
+    p : (p : Parts) × (outlined p own ≡ outline t)
+    p = parts-there own r (outline t) next (parts-outline ws places at own r x t next e)
 
 -- at the front of a table they are the outline of the transition
-pub front-outline : (table : List ℕ) (head : ℕ) (end : Skipped) {o : Outline} → Parted head (take 32 (drop (0 * 32) table)) o → outlined (parts_of end head) table ≡ o
-front-outline table head end {o} x =
+pub front-outline : (table : List ℕ) (head : ℕ) {o : Outline} → Parted head (take 32 (drop (0 * 32) table)) o → outlined (parts_of head) table ≡ o
+front-outline table head {o} x =
     let few = x.few in
     let a = x.variables in
     let b : take (head / 16 % 16) table ≡ o.inputs = sym (take-take (head / 16 % 16) 32 table (omega (arith, few.inputs))) ∙ x.inputs in

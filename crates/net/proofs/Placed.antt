@@ -6,6 +6,7 @@ use mathlib.Core.Bool.{Bool, true, ◌&&◌}
 use mathlib.Core.List.{List, [], ◌∷◌, map, zip, zip_with, map-map}
 use native.Mathlib.Omega.{arith}
 use borrow.Author.Tests.{leb-true, leb-false, eqb-true}
+use Rattle.std.specs.Prelude.{Result, Ok, Err}
 use lib.Dec.{leb, eqb}
 use lib.ListN.{length, get_or, take, drop, length-map, length-take}
 use lib.Seq.{drop-cons}
@@ -21,12 +22,11 @@ use Rattle.semantics.proofs.Readers.{Gives, gives, refusal, given, then_gives, d
 use Rattle.semantics.proofs.Spans.{word-reads}
 use Rattle.semantics.proofs.Accepted.{read_sound}
 use Rattle.word.specs.Fields.{range_word}
-use Rattle.expression.specs.declared.read.Skipped.{Skipped}
-use Rattle.expression.specs.declared.read.Skipped.TheVariants.{Next, Refused}
+use Rattle.semantics.specs.declared.refusal.Refusal.{Refusal}
 use Rattle.net.specs.declared.index.NetIndex.{NetIndex}
 use Rattle.net.specs.declared.index.Parts.{Parts}
-use Rattle.net.specs.Skim.{changed, outline, width, NetOutline, net_outline, skim_net}
-use Rattle.net.specs.Index.{up_to, outlined, AreParts, net_read}
+use Rattle.net.specs.Skim.{changed, Outline, outline, width, NetOutline, net_outline, skim_net}
+use Rattle.net.specs.Index.{outlined, AreParts, parts_read, outlined_net, net_read}
 use Rattle.net.specs.Places.{ranges_from, width_at, place_at, places_at, PlaceFits, PlacesFit}
 use Rattle.net.proofs.Skimming.{skim_transition_lem, pair_of, skim_net_lem}
 use Rattle.net.proofs.Nets.{seconds}
@@ -176,13 +176,11 @@ firsts [] (y ∷ ys) l = absurd (omega arith)
 firsts (x ∷ xs) [] l = absurd (omega arith)
 firsts (x ∷ xs) (y ∷ ys) l = ap (λ (r : List ℕ). x ∷ r) (firsts xs ys (omega arith))
 
-module _ (ws : List ℕ) (i : NetIndex) (x : net_read i ≡ skim_net ws 0) (full : length i.places_at ≡ 64) (wide : length i.widths ≡ 64) (net : Net) (next : ℕ) (e : read_net ws 0 ≡ read net next) where
+module _ (ws : List ℕ) (i : NetIndex) (x : net_read (Ok i) ≡ skim_net ws 0) (full : length i.places_at ≡ 64) (wide : length i.widths ≡ 64) (net : Net) (next : ℕ) (e : read_net ws 0 ≡ read net next) where
   outline-same : record { places = zip (take i.places i.places_at) (take i.places i.widths); transitions = take i.transitions i.transitions_at } ≡ net_outline net
-  outline-same = by (record { places = zip (take i.places i.places_at) (take i.places i.widths); transitions = take i.transitions i.transitions_at }) i.end (x ∙ sym (skim_net_lem ws 0) ∙ ap (changed net_outline) e)
-    where
-      by : (o : NetOutline) (end : Skipped) → up_to end o ≡ read (net_outline net) next → o ≡ net_outline net
-      by o (Next n) h = cc
-      by o (Refused n p) h = false_true (cc)
+  outline-same =
+      let s : read (outlined_net i) i.end ≡ read (net_outline net) next = x ∙ sym (skim_net_lem ws 0) ∙ ap (changed net_outline) e in
+      cc
 
   alike : length (take i.places i.places_at) ≡ length (take i.places i.widths)
   alike = length-take i.places i.places_at ∙ ap (min i.places) (full ∙ sym wide) ∙ sym (length-take i.places i.widths)
@@ -203,10 +201,11 @@ module _ (ws : List ℕ) (i : NetIndex) (x : net_read i ≡ skim_net ws 0) (full
   pub index-fits : PlacesFit ws (take i.places i.places_at)
   index-fits = rw index_positions (net-fits ws 0 net next e)
 
--- where the parts of a transition begin that was read
-pub parts-outline : (ws : List ℕ) (places : List Place) (at : ℕ) (own : List ℕ) {r : Parts} → AreParts ws (map width places) at own r → (t : Transition) (next : ℕ) → read_transition ws places at ≡ read t next → outlined r own ≡ outline t
-parts-outline ws places at own {r} x t next e = by r.end (x.same ∙ sym (skim_transition_lem ws places at) ∙ ap (changed outline) e)
-  where
-    by : (end : Skipped) → up_to end (outlined r own) ≡ read (outline t) next → outlined r own ≡ outline t
-    by (Next n) h = cc
-    by (Refused n p) h = false_true (cc)
+-- where the parts of a transition begin that was read, and where it ends
+pub parts-outline : (ws : List ℕ) (places : List Place) (at : ℕ) (own : List ℕ) (r : Result (Parts × ℕ) Refusal) → AreParts ws (map width places) at own r → (t : Transition) (next : ℕ) → read_transition ws places at ≡ read t next → parts_read r own ≡ read (outline t) next
+parts-outline ws places at own r x t next e = x.same ∙ sym (skim_transition_lem ws places at) ∙ ap (changed outline) e
+
+-- parts that were read are there
+pub parts-there : (own : List ℕ) (r : Result (Parts × ℕ) Refusal) (o : Outline) (next : ℕ) → parts_read r own ≡ read o next → (p : Parts) × (outlined p own ≡ o)
+parts-there own (Ok r) o next h = (r.0, cc)
+parts-there own (Err e) o next h = false_true (cc)

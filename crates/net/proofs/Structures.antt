@@ -1,25 +1,21 @@
 -- The rules of passing over an arc, a conjunct and a word by itself: what the answer is, from the word taken and the answers of what
 -- follows it. Each rule is one arm of the code.
-use mathlib.Core.Path.{◌≡◌, refl, sym, ap, ◌∙◌, subst}
+use mathlib.Core.Path.{◌≡◌, refl, sym, ap, ◌∙◌}
 use Prim.Native.Nat.{ℕ, ◌+◌, ◌≤◌, ◌<◌}
 use mathlib.Core.Bool.{Bool, true, false, ◌&&◌}
 use mathlib.Core.List.{List}
 use borrow.Author.Rules.{rules}
 use borrow.Author.Tests.{lt-ltb, le-ltb, ne_eqb}
-use native.Mathlib.Omega.{arith}
-use mir.Syntax.{w64}
-use mir.Val.{Fits}
+use Rattle.std.specs.Prelude.{Result, Ok, Err}
 use lib.Dec.{ltb, eqb}
 use lib.ListN.{length, get_or}
-use Rattle.semantics.specs.Refusal.{bad_word, most_words}
 use Rattle.semantics.specs.Word.{kind, payload}
 use Rattle.semantics.specs.Reading.{Reading, read, refused, then, demand, word_at, word}
-use Rattle.expression.specs.declared.read.Skipped.{Skipped}
-use Rattle.expression.specs.declared.read.Skipped.TheVariants.{Next, Refused}
+use Rattle.semantics.specs.declared.refusal.Refusal.{Refusal}
+use Rattle.semantics.specs.declared.refusal.Refusal.TheVariants.{BadWord}
+use Rattle.semantics.specs.Answer.{refusing}
 use Rattle.expression.specs.Skip.{forget, skipped}
-use Rattle.kinds.specs.declared.take.Taken.{Taken}
-use Rattle.kinds.specs.declared.take.Taken.TheVariants.{Word, Refused as TakeRefused}
-use Rattle.kinds.specs.Taken.{fits_kind, taken, Takes, IsTaken}
+use Rattle.kinds.specs.Taken.{fits_kind, taken, IsTaken}
 use Rattle.net.specs.Skim.{starts, skim_range, skim_expression, skim_arc, skim_conjunct, skim_one}
 use Rattle.net.proofs.Loops.{Ahead, ahead_turn, ahead_refused}
 
@@ -36,68 +32,62 @@ stricter ws k weak ok all at = by (word_at ws at)
     by (read w next) = tested (eqb (kind w) k) (payload w) next
     by (refused n q) = refl
 
-module _ {ws : List ℕ} {at k : ℕ} {t : Taken} (w : IsTaken ws at k t) where
-  pub word-told : {u : Taken} → t ≡ u → word ws k (fits_kind k) at ≡ taken at u
+module _ {ws : List ℕ} {at k : ℕ} {t : Result ℕ Refusal} (w : IsTaken ws at k t) where
+  pub word-told : {u : Result ℕ Refusal} → t ≡ u → word ws k (fits_kind k) at ≡ taken at u
   word-told e = sym w.same ∙ ap (taken at) e
 
-  pub word-refused : {m s : ℕ} → t ≡ TakeRefused m s → word ws k (fits_kind k) at ≡ refused m s
+  pub word-refused : {e : Refusal} → t ≡ Err e → word ws k (fits_kind k) at ≡ refusing e
   word-refused e = word-told e
 
-  pub word-taken : {p : ℕ} → t ≡ Word p → word ws k (fits_kind k) at ≡ read p (at + 1)
+  pub word-taken : {p : ℕ} → t ≡ Ok p → word ws k (fits_kind k) at ≡ read p (at + 1)
   word-taken e = word-told e
-
-  -- the next position is a number of the machine
-  pub next_fits : {p : ℕ} → t ≡ Word p → Fits w64 (at + 1)
-  next_fits e =
-      let h : at < most_words = (subst (Takes ws at k) e w.exists).in_limit in
-      record { fits = omega arith }
 
 -- ── Ranges, one after the other ──
 
-module _ {ws : List ℕ} {n at i next : ℕ} (a : Ahead (skim_range ws) n at i next) (h : i < n) {t : Taken} (w : IsTaken ws next 3 t) where
-  pub ranges_go : {p : ℕ} → t ≡ Word p → Ahead (skim_range ws) n at (i + 1) (next + 1)
+module _ {ws : List ℕ} {n at i next : ℕ} (a : Ahead (skim_range ws) n at i next) (h : i < n) {t : Result ℕ Refusal} (w : IsTaken ws next 3 t) where
+  pub ranges_go : {p : ℕ} → t ≡ Ok p → Ahead (skim_range ws) n at (i + 1) (next + 1)
   ranges_go e = ahead_turn a (next + 1) h (ap forget (word-taken w e))
 
-  pub ranges-stop : {m q : ℕ} → t ≡ TakeRefused m q → refused m q ≡ forget (starts n (skim_range ws) at)
-  ranges-stop {m} {q} e = ahead_refused a m q h (ap forget (word-refused w e))
+  pub ranges-stop : {e : Refusal} → t ≡ Err e → refusing e ≡ forget (starts n (skim_range ws) at)
+  ranges-stop e = ahead_refused a _ _ h (ap forget (word-refused w e))
 
 -- ── Arcs ──
 
-module _ (ws widths : List ℕ) (v at : ℕ) {t : Taken} (w : IsTaken ws at 5 t) where
+module _ (ws widths : List ℕ) (v at : ℕ) {t : Result ℕ Refusal} (w : IsTaken ws at 5 t) where
   arc-word : word ws 5 (λ q. ltb q (length widths)) at ≡ then (word ws 5 (fits_kind 5) at) (λ p next. demand (ltb p (length widths)) at (read p next))
   unfolding fits_kind
   arc-word = stricter ws 5 (fits_kind 5) (λ q. ltb q (length widths)) (λ p. refl) at
 
-  pub arc-refused : {m s : ℕ} → t ≡ TakeRefused m s → refused m s ≡ skim_arc ws widths v at
+  pub arc-refused : {e : Refusal} → t ≡ Err e → refusing e ≡ skim_arc ws widths v at
   unfolding skim_arc
   arc-refused e = rw (arc-word, word-refused w e)
 
-  pub arc_nowhere : {p : ℕ} → t ≡ Word p → length widths ≤ p → refused bad_word at ≡ skim_arc ws widths v at
+  pub arc_nowhere : {p : ℕ} → t ≡ Ok p → length widths ≤ p → refusing (BadWord at) ≡ skim_arc ws widths v at
   unfolding skim_arc
   arc_nowhere {p} e h = rw (arc-word, word-taken w e, le-ltb p (length widths) h)
 
-  module _ {p : ℕ} (e : t ≡ Word p) (h : p < length widths) {r : Skipped} (x : skipped r ≡ skim_expression ws v (at + 1)) where
-    pub arc-coefficient : {n q : ℕ} → r ≡ Refused n q → refused n q ≡ skim_arc ws widths v at
+  module _ {p : ℕ} (e : t ≡ Ok p) (h : p < length widths) {r : Result ℕ Refusal} (x : skipped r ≡ skim_expression ws v (at + 1)) where
+    pub arc-coefficient : {e : Refusal} → r ≡ Err e → refusing e ≡ skim_arc ws widths v at
     unfolding skim_arc
     arc-coefficient d = rw (arc-word, word-taken w e, lt-ltb p (length widths) h, ← x, d)
 
-    pub arc-components : {next : ℕ} {s : Reading (Unit {0})} → r ≡ Next next → s ≡ forget (starts (get_or widths p 0) (skim_expression ws v) next) → s ≡ skim_arc ws widths v at
+    pub arc-components : {next : ℕ} {s : Reading (Unit {0})} → r ≡ Ok next → s ≡ forget (starts (get_or widths p 0) (skim_expression ws v) next) → s ≡ skim_arc ws widths v at
     unfolding skim_arc
     arc-components d y = rw (arc-word, word-taken w e, lt-ltb p (length widths) h, ← x, d) y
 
 -- ── Conjuncts ──
 
-module _ (ws : List ℕ) (v at : ℕ) {t : Taken} (w : IsTaken ws at 6 t) where
-  pub conjunct-refused : {m s : ℕ} → t ≡ TakeRefused m s → refused m s ≡ skim_conjunct ws v at
+module _ (ws : List ℕ) (v at : ℕ) {t : Result ℕ Refusal} (w : IsTaken ws at 6 t) where
+  pub conjunct-refused : {e : Refusal} → t ≡ Err e → refusing e ≡ skim_conjunct ws v at
   unfolding skim_conjunct
   conjunct-refused e = rw (word-refused w e)
 
-  module _ {p : ℕ} (e : t ≡ Word p) {r : Skipped} (x : skipped r ≡ skim_expression ws v (at + 1)) where
-    pub conjunct-left : {n q : ℕ} → r ≡ Refused n q → refused n q ≡ skim_conjunct ws v at
+  module _ {p : ℕ} (e : t ≡ Ok p) {r : Result ℕ Refusal} (x : skipped r ≡ skim_expression ws v (at + 1)) where
+    pub conjunct-left : {e : Refusal} → r ≡ Err e → refusing e ≡ skim_conjunct ws v at
     unfolding skim_conjunct
     conjunct-left d = rw (word-taken w e, ← x, d)
 
-    pub conjunct-right : {next : ℕ} {s : Reading (Unit {0})} → r ≡ Next next → s ≡ skim_expression ws v next → s ≡ skim_conjunct ws v at
+    pub conjunct-right : {next : ℕ} {s : Reading (Unit {0})} → r ≡ Ok next → s ≡ skim_expression ws v next → s ≡ skim_conjunct ws v at
     unfolding skim_conjunct
     conjunct-right d y = rw (word-taken w e, ← x, d) y
 
@@ -112,13 +102,13 @@ module _ (ws widths : List ℕ) (v k at : ℕ) where
   unfolding skim_one
   one-conjunct e x = rw e x
 
-  module _ (f : k ≡ 5 → ⊥) (g : k ≡ 6 → ⊥) {t : Taken} (w : IsTaken ws at k t) where
-    pub one-refused : {m s : ℕ} → t ≡ TakeRefused m s → refused m s ≡ skim_one ws widths v k at
+  module _ (f : k ≡ 5 → ⊥) (g : k ≡ 6 → ⊥) {t : Result ℕ Refusal} (w : IsTaken ws at k t) where
+    pub one-refused : {e : Refusal} → t ≡ Err e → refusing e ≡ skim_one ws widths v k at
     unfolding skim_one
     one-refused e = rw (ne_eqb k 5 f, ne_eqb k 6 g, word-refused w e)
 
-    pub one-taken : {p : ℕ} → t ≡ Word p → read tt (at + 1) ≡ skim_one ws widths v k at
+    pub one-taken : {p : ℕ} → t ≡ Ok p → read tt (at + 1) ≡ skim_one ws widths v k at
     unfolding skim_one
     one-taken e = rw (ne_eqb k 5 f, ne_eqb k 6 g, word-taken w e)
 
-pub ruleset passing = (rules, next_fits, ranges_go, ranges-stop, arc-refused, arc_nowhere, arc-coefficient, arc-components, conjunct-refused, conjunct-left, conjunct-right, one-arc, one-conjunct, one-refused, one-taken)
+pub ruleset passing = (rules, ranges_go, ranges-stop, arc-refused, arc_nowhere, arc-coefficient, arc-components, conjunct-refused, conjunct-left, conjunct-right, one-arc, one-conjunct, one-refused, one-taken)

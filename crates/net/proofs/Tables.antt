@@ -1,18 +1,18 @@
 -- Tables in which structures begin, several kinds one after the other: what was written stays while what follows is written, since each part is written
 -- behind those before it. Rests on Loops.
-use mathlib.Core.Path.{◌≡◌, refl, sym, ap, ◌∙◌}
+use mathlib.Core.Path.{◌≡◌, sym, ap, ◌∙◌}
 use mathlib.Core.List.{List}
 use Prim.Native.Nat.{ℕ, ◌+◌, ◌≤◌, ◌<◌}
 use native.Mathlib.Omega.{arith}
+use Rattle.std.specs.Prelude.{Result, Ok, Err}
 use lib.ListN.{length, take, drop, set, length-set, length-drop}
 use lib.Seq.{take-take, drop-drop, drop-set-add, take-set-le}
-use Rattle.semantics.specs.Reading.{Reading, Reader}
+use Rattle.semantics.specs.Reading.{Reader}
 use Rattle.word.proofs.Slices.{slice-from}
-use Rattle.expression.specs.declared.read.Skipped.{Skipped}
-use Rattle.expression.specs.declared.read.Skipped.TheVariants.{Next, Refused}
+use Rattle.semantics.specs.declared.refusal.Refusal.{Refusal}
 use Rattle.expression.specs.Skip.{skipped}
-use Rattle.net.specs.Index.{up_to, Alike, AreStarted}
-use Rattle.net.proofs.Loops.{Collected, collected_start, collected_goes, collected_stops, collected_end}
+use Rattle.net.specs.Index.{Alike, AreStarted}
+use Rattle.net.proofs.Loops.{Collected, collected_goes, collected_stops, collected_end}
 
 -- ── Tables that begin alike ──
 
@@ -22,6 +22,10 @@ module _ {n : ℕ} {l m : List ℕ} (alike : Alike n l m) where
 
   pub part_same : (k c : ℕ) → k + c ≤ n → take c (drop k l) ≡ take c (drop k m)
   part_same k c h = sym (slice-from k c l) ∙ ap (drop k) (front_same (k + c) h) ∙ slice-from k c m
+
+-- what is written behind a part leaves what is before it alike
+pub alike_still : {n : ℕ} {a b t : List ℕ} (k : ℕ) → Alike n b t → Alike (n + k) a b → Alike n a t
+alike_still {n} k first second = record { same = front_same second n (omega arith) ∙ first.same }
 
 -- a part of 32 numbers of a table
 pub own-part : (t : List ℕ) (base k c : ℕ) → k + c ≤ 32 → take c (drop k (take 32 (drop base t))) ≡ take c (drop (base + k) t)
@@ -33,20 +37,11 @@ own-part t base k c h =
 
 -- ── Structures of one kind ──
 
-pub up_to-same : (r : Skipped) {a b : List ℕ} {x : Reading (List ℕ)} → a ≡ b → up_to r b ≡ x → up_to r a ≡ x
-up_to-same r e f = ap (up_to r) e ∙ f
-
 -- the i first of n were read, and where they begin was written from a number on
 pub record Filled (R : Reader (Unit {0})) (n at i next : ℕ) (table : List ℕ) (base : ℕ) (after : List ℕ) : Type 0 where
   pub collected : Collected R n at i next (drop base after)
   pub long : length after ≡ length table
   pub before : Alike base after table
-
-pub filled_start : (R : Reader (Unit {0})) (n at : ℕ) (table : List ℕ) (base : ℕ) → Filled R n at 0 at table base table
-filled_start R n at table base = record { collected = collected_start R n at (drop base table); long = refl; before = record { same = refl } }
-
-pub from-refused : (R : Reader (Unit {0})) (n : ℕ) (table : List ℕ) (base : ℕ) {from : Skipped} {m q : ℕ} → from ≡ Refused m q → AreStarted n R from table base from table
-from-refused R n table base e = record { same = rw e; before = record { same = refl } }
 
 module _ {R : Reader (Unit {0})} {n at i next : ℕ} {table : List ℕ} {base : ℕ} {after : List ℕ} (a : Filled R n at i next table base after) where
   pub written-long : (x : ℕ) → length (set after (base + i) x) ≡ length table
@@ -55,11 +50,11 @@ module _ {R : Reader (Unit {0})} {n at i next : ℕ} {table : List ℕ} {base : 
   written-before : (x : ℕ) → Alike base (set after (base + i) x) table
   written-before x = record { same = take-set-le base after (base + i) x (omega arith) ∙ a.before.same }
 
-  pub filled_end : {from : Skipped} → n ≤ i → from ≡ Next at → AreStarted n R from table base (Next next) after
-  filled_end h f = record { same = rw f (collected_end a.collected h); before = a.before }
+  pub filled_end : n ≤ i → AreStarted n R at table base (Ok next) after
+  filled_end h = record { same = collected_end a.collected h; before = a.before }
 
-  module _ {r : Skipped} (h : i < n) (s : skipped r ≡ R next) where
-    pub filled_goes : {p : ℕ} → base + n ≤ length table → r ≡ Next p → Filled R n at (i + 1) p table base (set after (base + i) next)
+  module _ {r : Result ℕ Refusal} (h : i < n) (s : skipped r ≡ R next) where
+    pub filled_goes : {p : ℕ} → base + n ≤ length table → r ≡ Ok p → Filled R n at (i + 1) p table base (set after (base + i) next)
     filled_goes l e = record {
       collected = rw (drop-set-add base after i next) (collected_goes a.collected h s (omega (arith, length-drop base after, a.long)) e);
       long = written-long next;
@@ -67,15 +62,12 @@ module _ {R : Reader (Unit {0})} {n at i next : ℕ} {table : List ℕ} {base : 
     }
 
     -- whatever was written where the refused one begins
-    pub filled_stops : (x : ℕ) {from : Skipped} {m q : ℕ} → r ≡ Refused m q → from ≡ Next at → AreStarted n R from table base (Refused m q) (set after (base + i) x)
-    filled_stops x e f = record { same = rw f (collected_stops a.collected h s e); before = written-before x }
+    pub filled_stops : (x : ℕ) {e : Refusal} → r ≡ Err e → AreStarted n R at table base (Err e) (set after (base + i) x)
+    filled_stops x e = record { same = collected_stops a.collected h s e; before = written-before x }
 
 -- ── Four kinds, one after the other ──
 
-module _ {base : ℕ} {t a b c d : List ℕ} (first : Alike base a t) (second : Alike (base + 8) b a) (third : Alike (base + 16) c b) (fourth : Alike (base + 24) d c) where
-  pub before_four : Alike base d t
-  before_four = record { same = front_same fourth base (omega arith) ∙ front_same third base (omega arith) ∙ front_same second base (omega arith) ∙ first.same }
-
+module _ (base : ℕ) {a b c d : List ℕ} (second : Alike (base + 8) b a) (third : Alike (base + 16) c b) (fourth : Alike (base + 24) d c) where
   pub inputs-stay : (n : ℕ) → n ≤ 8 → take n (take 32 (drop base d)) ≡ take n (drop base a)
   inputs-stay n h = take-take n 32 (drop base d) (omega arith) ∙ part_same fourth base n (omega arith) ∙ part_same third base n (omega arith) ∙ part_same second base n (omega arith)
 

@@ -1,37 +1,29 @@
 -- What the answers of the readers in src/ say: as readings of specs/Skim.
 -- Rests on Skim.
-use Rattle.std.specs.Prelude.{◌≡◌, ℕ, ◌/◌, ◌%◌, ◌≤◌, take, drop}
+use Rattle.std.specs.Prelude.{◌≡◌, ℕ, ◌/◌, ◌%◌, ◌≤◌, take, drop, Result, Ok, Err}
 use mathlib.Core.List.{List, zip}
-use Rattle.semantics.specs.Reading.{Reading, read, refused, then, Reader}
-use Rattle.kinds.specs.declared.take.Taken.{Taken}
-use Rattle.kinds.specs.declared.take.Taken.TheVariants.{Word, Refused as TakeRefused}
-use Rattle.expression.specs.declared.read.Skipped.{Skipped}
-use Rattle.expression.specs.declared.read.Skipped.TheVariants.{Next, Refused}
+use Rattle.semantics.specs.declared.refusal.Refusal.{Refusal}
+use Rattle.semantics.specs.Reading.{Reading, read, Reader}
+use Rattle.semantics.specs.Answer.{refusing}
 use Rattle.net.specs.declared.index.Parts.{Parts}
 use Rattle.net.specs.declared.index.PlaceIndex.{PlaceIndex}
 use Rattle.net.specs.declared.index.NetIndex.{NetIndex}
-use Rattle.expression.specs.Skip.{skipped}
 use Rattle.net.specs.Skim.{starts, Outline, skim_transition, NetOutline}
-
--- a refused word's refusal; a word that was taken has none
-abbrev pub refusal_of : Taken → Skipped
-refusal_of (Word p) = Next 0
-refusal_of (TakeRefused n q) = Refused n q
 
 -- ── Structures ──
 
 -- what was read up to an end, or its refusal
-abbrev pub up_to : {A : Type 0} → Skipped → A → Reading A
-up_to (Next next) a = read a next
-up_to (Refused n p) a = refused n p
+abbrev pub up_to : {A : Type 0} → Result ℕ Refusal → A → Reading A
+up_to (Ok next) a = read a next
+up_to (Err e) a = refusing e
 
 -- the first n numbers of two tables are alike
 pub record Alike (n : ℕ) (l m : List ℕ) : Type 0 where
   pub same : take n l ≡ take n m
 
--- n structures of one kind, after others that end or are refused: where they begin stands in a table from a number on; what is before that number stays
-pub record AreStarted (n : ℕ) (one : Reader (Unit {0})) (from : Skipped) (table : List ℕ) (base : ℕ) (r : Skipped) (after : List ℕ) : Type 0 where
-  pub same : up_to r (take n (drop base after)) ≡ then (skipped from) (λ u at. starts n one at)
+-- n structures of one kind: where they begin stands in a table from a number on; what is before that number stays
+pub record AreStarted (n : ℕ) (one : Reader (Unit {0})) (at : ℕ) (table : List ℕ) (base : ℕ) (r : Result ℕ Refusal) (after : List ℕ) : Type 0 where
+  pub same : up_to r (take n (drop base after)) ≡ starts n one at
   pub before : Alike base after table
 
 -- where the parts of a transition begin, as 32 numbers have them: eight for each kind of part
@@ -46,32 +38,44 @@ outlined r own =
     }
 
 -- how many parts a TRANSITION word tells
-abbrev pub parts_of : Skipped → ℕ → Parts
-parts_of end head = record { end = end; variables = head % 16; inputs = head / 16 % 16; outputs = head / 256 % 16; conjuncts = head / 4096 % 16; elements = head / 65536 % 16 }
+abbrev pub parts_of : ℕ → Parts
+parts_of head = record { variables = head % 16; inputs = head / 16 % 16; outputs = head / 256 % 16; conjuncts = head / 4096 % 16; elements = head / 65536 % 16 }
 
-abbrev pub no_parts : Skipped → Parts
-no_parts end = record { end = end; variables = 0; inputs = 0; outputs = 0; conjuncts = 0; elements = 0 }
+-- a transition whose parts begin where 32 numbers say, or its refusal
+abbrev pub parts_read : Result (Parts × ℕ) Refusal → List ℕ → Reading Outline
+parts_read (Ok r) own = read (outlined r.0 own) r.1
+parts_read (Err e) own = refusing e
 
--- the parts of the transition at a position begin where 32 numbers say, at most eight of each
-pub record AreParts (ws widths : List ℕ) (at : ℕ) (own : List ℕ) (r : Parts) : Type 0 where
-  pub same : up_to r.end (outlined r own) ≡ skim_transition ws widths at
-  pub few-variables : r.variables ≤ 8
-  pub few-inputs : r.inputs ≤ 8
-  pub few-outputs : r.outputs ≤ 8
-  pub few-conjuncts : r.conjuncts ≤ 8
-  pub few_elements : r.elements ≤ 8
+-- at most eight of each
+pub record AreFew (r : Parts) : Type 0 where
+  pub variables : r.variables ≤ 8
+  pub inputs : r.inputs ≤ 8
+  pub outputs : r.outputs ≤ 8
+  pub conjuncts : r.conjuncts ≤ 8
+  pub elements : r.elements ≤ 8
+
+abbrev pub FewRead : Result (Parts × ℕ) Refusal → Type 0
+FewRead (Ok r) = AreFew r.0
+FewRead (Err e) = Unit {0}
+
+-- the transition at a position; its parts begin where 32 numbers say
+pub record AreParts (ws widths : List ℕ) (at : ℕ) (own : List ℕ) (r : Result (Parts × ℕ) Refusal) : Type 0 where
+  pub same : parts_read r own ≡ skim_transition ws widths at
+  pub few : FewRead r
 
 -- they stand in a table from a number on; what is before that number stays
-pub record PartsRead (ws widths : List ℕ) (at : ℕ) (table : List ℕ) (base : ℕ) (r : Parts) (after : List ℕ) : Type 0 where
+pub record PartsRead (ws widths : List ℕ) (at : ℕ) (table : List ℕ) (base : ℕ) (r : Result (Parts × ℕ) Refusal) (after : List ℕ) : Type 0 where
   pub parts : AreParts ws widths at (take 32 (drop base after)) r
   pub before : Alike base after table
 
-abbrev pub place_read : PlaceIndex → Reading ℕ
-place_read r = up_to r.end r.width
+abbrev pub place_read : Result PlaceIndex Refusal → Reading ℕ
+place_read (Ok r) = read r.width r.end
+place_read (Err e) = refusing e
 
 -- the positions that the index of a net has
 abbrev pub outlined_net : NetIndex → NetOutline
 outlined_net r = record { places = zip (take r.places r.places_at) (take r.places r.widths); transitions = take r.transitions r.transitions_at }
 
-abbrev pub net_read : NetIndex → Reading NetOutline
-net_read r = up_to r.end (outlined_net r)
+abbrev pub net_read : Result NetIndex Refusal → Reading NetOutline
+net_read (Ok r) = read (outlined_net r) r.end
+net_read (Err e) = refusing e

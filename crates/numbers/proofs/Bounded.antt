@@ -1,30 +1,13 @@
--- The results of two i32 fit an i64, and the two tests of `short_of` are the one test of `bounded`.
-use mathlib.Core.Path.{◌≡◌}
+-- The results of two i32 fit an i64.
 use mathlib.Core.Bool.{Bool, true, false, cond}
 use Prim.Native.Nat.{ℕ, zero, suc, ◌+◌, ◌*◌, ◌-◌, ◌^◌, ◌≤◌, ◌<◌, zero-le}
 use native.Mathlib.Nat.{le_trans, le_refl, mul-le-mul}
 use native.Mathlib.Omega.{arith}
 use lib.Dec.{ltb}
 use lib.IntN.{ℤ, pos, negsuc, neg_ℤ, sub_ℕ, ◌+ℤ◌, ◌-ℤ◌, ◌*ℤ◌}
-use lib.Signed.{mag, lt_z}
+use lib.Signed.{mag}
 use mir.Syntax.{w32, w64}
 use mir.Val.{SFits}
-use borrow.Author.Tests.{ltb-true, ltb-false, lt-ltb, le-ltb}
-use Rattle.semantics.proofs.Tests.{false_true}
-
--- ── The two tests ──
-
-pub out_low : (z : ℤ) → lt_z z (negsuc 2147483647) ≡ true → ltb (mag z) (2 ^ 31) ≡ false
-out_low (pos n) e = false_true e
-out_low (negsuc n) e = le-ltb n (2 ^ 31) (omega (arith, ltb-true))
-
-pub out_high : (z : ℤ) → lt_z (pos 2147483647) z ≡ true → ltb (mag z) (2 ^ 31) ≡ false
-out_high (pos n) e = le-ltb n (2 ^ 31) (omega (arith, ltb-true))
-out_high (negsuc n) e = false_true e
-
-pub inside : (z : ℤ) → lt_z z (negsuc 2147483647) ≡ false → lt_z (pos 2147483647) z ≡ false → ltb (mag z) (2 ^ 31) ≡ true
-inside (pos n) e h = lt-ltb n (2 ^ 31) (omega (arith, ltb-false))
-inside (negsuc n) e h = lt-ltb n (2 ^ 31) (omega (arith, ltb-false))
 
 -- ── Results of 64 bits ──
 

@@ -1,69 +1,58 @@
 // Numbers that may be missing: the operators, the house table of loads and the relations. Rests on word::fields.
-ghost use Rattle.std.specs.Prelude.{◌≡◌, pos};
+ghost use Rattle.std.specs.Prelude.{◌≡◌};
 ghost use Rattle.std.proofs.Math.Option.{bind};
 ghost use Rattle.std.specs.Int.Signed.{lt_z, le_z};
+ghost use Rattle.semantics.specs.Answer.{option_of};
 ghost use Rattle.semantics.specs.Expression as expression;
 ghost use Rattle.semantics.specs.Expression.{bounded, operate, load_of, house_table};
 ghost use Rattle.semantics.specs.Order.{same_integer};
 ghost use Rattle.semantics.specs.Enabling.{related, compared};
 ghost use Rattle.semantics.specs.ReadNet.{relation_of};
 ghost use Rattle.word.specs.Operator.{operator_of};
-ghost use Rattle.numbers.specs.Number.{number};
 
 use word::fields::modulo;
 
-// A value that may be missing. Values are -2^31 to 2^31 - 1.
-#[derive(Clone, Copy)]
-pub enum Number {
-    Some(i32),
-    None,
-}
-
-// z where it is a value.
-pub fn short_of(z: i64) -> Number
-    ensures { number result ≡ bounded z }
+// z where it is a value: values are -2^31 to 2^31 - 1.
+pub fn short_of(z: i64) -> Option<i32>
+    ensures { option_of result ≡ bounded z }
 {
-    if z < -2147483648 {
-        return Number::None;
+    if z < -2147483648 || 2147483647 < z {
+        return None;
     }
-    if 2147483647 < z {
-        return Number::None;
-    }
-    Number::Some(z as i32)
+    Some(z as i32)
 }
 
-pub fn add(x: i32, y: i32) -> Number
-    ensures { number result ≡ operate expression.add x y }
+pub fn add(x: i32, y: i32) -> Option<i32>
+    ensures { option_of result ≡ operate expression.add x y }
 {
-    short_of(x as i64 + y as i64)
+    short_of(i64::from(x) + i64::from(y))
 }
 
-pub fn subtract(x: i32, y: i32) -> Number
-    ensures { number result ≡ operate expression.subtract x y }
+pub fn subtract(x: i32, y: i32) -> Option<i32>
+    ensures { option_of result ≡ operate expression.subtract x y }
 {
-    short_of(x as i64 - y as i64)
+    short_of(i64::from(x) - i64::from(y))
 }
 
-pub fn multiply(x: i32, y: i32) -> Number
-    ensures { number result ≡ operate expression.multiply x y }
+pub fn multiply(x: i32, y: i32) -> Option<i32>
+    ensures { option_of result ≡ operate expression.multiply x y }
 {
-    short_of(x as i64 * y as i64)
+    short_of(i64::from(x) * i64::from(y))
 }
 
-pub fn remainder(x: i32, d: i32) -> Number
-    ensures { number result ≡ operate expression.remainder x d }
+pub fn remainder(x: i32, d: i32) -> Option<i32>
+    ensures { option_of result ≡ operate expression.remainder x d }
 {
     if 0 < d {
-        let r = modulo(x, d as u32);
-        Number::Some(r as i32)
+        Some(modulo(x, d as u32) as i32)
     } else {
-        Number::None
+        None
     }
 }
 
 // The operators by their codes: 0 add, 1 subtract, 2 multiply, 3 remainder.
-pub fn binary(code: u32, x: i32, y: i32) -> Number
-    ensures { number result ≡ operate (operator_of code) x y }
+pub fn binary(code: u32, x: i32, y: i32) -> Option<i32>
+    ensures { option_of result ≡ operate (operator_of code) x y }
 {
     match code {
         0 => add(x, y),
@@ -74,50 +63,31 @@ pub fn binary(code: u32, x: i32, y: i32) -> Number
 }
 
 // The same of operands that may be missing: one without value leaves none.
-pub fn operate(code: u32, x: Number, y: Number) -> Number
-    ensures { number result ≡ bind (number x) (λ a. bind (number y) (λ b. operate (operator_of code) a b)) }
+pub fn operate(code: u32, x: Option<i32>, y: Option<i32>) -> Option<i32>
+    ensures { option_of result ≡ bind (option_of x) (λ a. bind (option_of y) (λ b. operate (operator_of code) a b)) }
 {
-    match x {
-        Number::Some(a) => match y {
-            Number::Some(b) => binary(code, a, b),
-            Number::None => Number::None,
-        },
-        Number::None => Number::None,
-    }
+    binary(code, x?, y?)
 }
 
 // The house table of full tiller load in pump units, depth 0 to 15.
 pub const LOADS: [u8; 16] = [0, 2, 3, 4, 5, 6, 7, 8, 9, 10, 11, 12, 12, 13, 13, 14];
 
-fn wide(x: u8) -> i32
-    ensures { result ≡ pos x }
-{
-    x as i32
-}
-
 // The load of a depth: no value outside the table.
-pub fn load(depth: i32) -> Number
-    ensures { number result ≡ load_of house_table depth }
+pub fn load(depth: i32) -> Option<i32>
+    ensures { option_of result ≡ load_of house_table depth }
 {
     if depth < 0 {
-        return Number::None;
+        return None;
     }
-    let i = depth as usize;
-    if i < 16 {
-        Number::Some(wide(LOADS[i]))
-    } else {
-        Number::None
-    }
+    let load = LOADS.get(depth as usize)?;
+    Some(i32::from(*load))
 }
 
 // The same of an operand that may be missing.
-pub fn apply_load(x: Number) -> Number
-    ensures { number result ≡ bind (number x) (load_of house_table) }
+pub fn apply_load(x: Option<i32>) -> Option<i32>
+    ensures { option_of result ≡ bind (option_of x) (load_of house_table) }
 {
-    match x {
-        Number::Some(a) => load(a),
-        Number::None => Number::None,
-    }
+    load(x?)
 }
 
 pub fn equal(x: i32, y: i32) -> bool
@@ -151,14 +121,11 @@ pub fn related(relation: u32, x: i32, y: i32) -> bool
 }
 
 // The same of two sides that may be missing: no relation holds of a side without value.
-pub fn compared(relation: u32, x: Number, y: Number) -> bool
-    ensures { result ≡ compared (relation_of relation) (number x) (number y) }
+pub fn compared(relation: u32, x: Option<i32>, y: Option<i32>) -> bool
+    ensures { result ≡ compared (relation_of relation) (option_of x) (option_of y) }
 {
-    match x {
-        Number::Some(a) => match y {
-            Number::Some(b) => related(relation, a, b),
-            Number::None => false,
-        },
-        Number::None => false,
+    match (x, y) {
+        (Some(a), Some(b)) => related(relation, a, b),
+        _ => false,
     }
 }

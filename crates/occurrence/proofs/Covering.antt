@@ -29,7 +29,7 @@ use Rattle.guards.specs.Guard.{guard_at}
 use Rattle.arcs.specs.Keys.{key_place, key_code, width_of, key_colour, key_flow, key_flows, KeyFits}
 use Rattle.gathering.specs.declared.gather.Gathered.{Gathered}
 use Rattle.gathering.specs.Gather.{IsGathered, sum_of}
-use Rattle.gathering.proofs.Gathering.{known_nothing, keeps_all}
+use Rattle.gathering.proofs.Gathering.{known_nothing}
 use Rattle.gathering.proofs.Keyed.{Ranged, keys_total, covers-gathered}
 use Rattle.occurrence.specs.Answers.{is_repeated, IsCovered, IsEnabledAt, IsTaken}
 
@@ -156,9 +156,6 @@ module _ (ws ps gs is ms begins bs : List ℕ) where
     pub enabled_unguarded : not g ≡ true → IsEnabledAt ws ps gs is ms begins bs false
     enabled_unguarded d = record { enabled = λ places e es next m b. let k : guard_at ws bs gs ≡ false = sym h ∙ not-true _ d in rw k }
 
-    pub taken_unguarded : {keys amounts : List ℕ} → not g ≡ true → IsTaken ws ps gs is ms begins bs (record { some = false; arcs = 0; n = 0 }) keys amounts
-    taken_unguarded d = none-taken (enabled_unguarded d)
-
     module _ {keys amounts : List ℕ} (d : not g ≡ false) {r : Gathered} (x : IsGathered ws ps bs is r keys amounts) where
       guarded : guard_at ws bs gs ≡ true
       guarded = sym h ∙ not-false _ d
@@ -196,4 +193,4 @@ module _ {ws ps bs is : List ℕ} {r : Gathered} {keys amounts : List ℕ} (x : 
   pub keys_fit : Every (KeyFits ws ps) (take r.n keys)
   keys_fit = x.known.fit
 
-pub ruleset enabling = (rules, known_nothing, keeps_all, enabled_unguarded, enabled_unmoved, enabled-covered, taken_unguarded, taken_unmoved, taken_uncovered, keys_front, amounts_front)
+pub ruleset enabling = (rules, known_nothing, enabled_unmoved, enabled-covered, taken_unmoved, taken_uncovered)

@@ -37,7 +37,7 @@ pub fn spot_of(net: &[u32], places: &[usize], marking: &[u32], begins: &[usize],
 pub fn wide(x: u32) -> u64
     ensures { (result ≡ x) × (result < 2 ^ 32) }
 {
-    x as u64
+    u64::from(x)
 }
 
 // The sum of the amounts of a key.
@@ -45,14 +45,10 @@ pub fn total_of(keys: &[u64], amounts: &[u32], key: u64) -> u64
     requires { (length keys.now ≤ 8) × (length amounts.now ≡ length keys.now) }
     ensures { result ≡ sum_of keys.now amounts.now key }
 {
-    let mut sum = 0u64;
-    let mut j = 0;
-    while j < keys.len() {
+    let mut sum = 0;
+    for j in 0..keys.len() {
         if keys[j] == key {
-            sum += wide(amounts[j]);
-            j += 1;
-        } else {
-            j += 1;
+            sum += u64::from(amounts[j]);
         }
     }
     sum
@@ -63,10 +59,7 @@ fn repeats(keys: &[u64], i: usize) -> bool
     requires { i < length keys.now }
     ensures { result ≡ is_repeated keys.now i }
 {
-    if i == 0 {
-        return false;
-    }
-    keys[i - 1] == keys[i]
+    0 < i && keys[i - 1] == keys[i]
 }
 
 // Whether the marking, with the beginnings of its places, covers the amounts of all keys.
@@ -84,17 +77,13 @@ pub fn covers(
     requires every { Every (KeyFits net.now places.now) keys.now }
     ensures { IsCovered net.now places.now keys.now amounts.now marking.now begins.now result }
 {
-    let mut i = 0;
-    while i < keys.len() {
-        if repeats(keys, i) {
-            i += 1;
-        } else {
+    for i in 0..keys.len() {
+        if !repeats(keys, i) {
             let key = keys[i];
             let spot = spot_of(net, places, marking, begins, key);
             if (spot.count as u64) < total_of(keys, amounts, key) {
                 return false;
             }
-            i += 1;
         }
     }
     true

@@ -14,8 +14,7 @@ use Rattle.semantics.specs.Expression.{house_table}
 use Rattle.semantics.specs.Reading.{read}
 use Rattle.semantics.specs.Marking.{counts_of}
 use Rattle.semantics.specs.Run.{menu, Offer, offered, withheld, offer}
-use Rattle.semantics.specs.declared.Listed.{Listed}
-use Rattle.semantics.specs.declared.Listed.TheVariants.{Found, Refused as MenuRefused}
+use Rattle.semantics.specs.Answer.{Listed, Found, MenuRefused}
 use Rattle.semantics.specs.Calls.{Situation, situation, MenuEnd, listed_by, menu_call}
 use Rattle.semantics.specs.Print.{decimal, refused_text, line, fields, offer_text}
 use Rattle.semantics.proofs.Tests.{false_true, and_right, Every-at}
@@ -25,13 +24,15 @@ use Rattle.semantics.proofs.Accepted.{SoundTransition, accepted_sound}
 use Rattle.semantics.proofs.Offer.{made-offer}
 use Rattle.semantics.proofs.Plans.{Listing, listing}
 use Rattle.rows.specs.Rows.{rows_of}
-use Rattle.search.specs.Search.{menu_end}
 use Rattle.text.specs.Put.{Put}
 use Rattle.text.proofs.Putting.{put_then}
 use Rattle.offers.specs.Offers.{rows_text, Ready, IsMenuText}
 use Rattle.offers.proofs.Bindings.{menu-fits, rows_back}
 
-module _ (buffer : List ℕ) {ws ms after : List ℕ} {t width : ℕ} {a : Listed} (R : Ready ws t ms width) (E : menu_end a after ≡ menu_call ws t ms 1000000 buffer) (size : length buffer ≡ 4096) where
+abbrev ended : Listed → List ℕ → MenuEnd
+ended a after = record { answer = a; buffer = after }
+
+module _ (buffer : List ℕ) {ws ms after : List ℕ} {t width : ℕ} {a : Listed} (R : Ready ws t ms width) (E : ended a after ≡ menu_call ws t ms 1000000 buffer) (size : length buffer ≡ 4096) where
   -- ── A menu that is found ──
 
   module _ {n w : ℕ} (d : a ≡ Found n w) where
@@ -94,7 +95,7 @@ module _ (buffer : List ℕ) {ws ms after : List ℕ} {t width : ℕ} {a : Liste
   unfolding menu_call
   withheld-text {m} {p} {b} {c} {end} d q = record { put = λ s h. by s (offer house_table s.net 1000000 (length buffer) s.transition s.counts) refl (rw h at E) }
     where
-      by : (s : Situation) (x : Offer) → offer house_table s.net 1000000 (length buffer) s.transition s.counts ≡ x → menu_end a after ≡ listed_by buffer (offer house_table s.net 1000000 (length buffer) s.transition s.counts) → Put b 0 (offer_text t (offer house_table s.net 1000000 4096 s.transition s.counts)) c end
+      by : (s : Situation) (x : Offer) → offer house_table s.net 1000000 (length buffer) s.transition s.counts ≡ x → ended a after ≡ listed_by buffer (offer house_table s.net 1000000 (length buffer) s.transition s.counts) → Put b 0 (offer_text t (offer house_table s.net 1000000 4096 s.transition s.counts)) c end
       by s (offered bs w) o e =
           let f : MenuRefused m p ≡ Found (length bs) w = sym d ∙ ap (λ (y : MenuEnd). y.answer) (rw o at e) in
           false_true (cc)

@@ -11,13 +11,9 @@ pub fn put_rows(out: &mut [u8], at: usize, words: &[u32], width: usize, n: usize
     ensures { Put out.old at (rows_text width n words.now) out.new result }
 {
     let mut next = at;
-    let mut from = 0;
-    let mut left = n;
-    while 0 < left {
-        let end = from + width;
-        next = put_row(out, next, &words[from..end]);
-        from = end;
-        left -= 1;
+    for i in 0..n {
+        let from = i * width;
+        next = put_row(out, next, &words[from..from + width]);
     }
     next
 }

@@ -2,7 +2,6 @@
 ghost use Rattle.offers.specs.Offers.{Ready, IsMenuText};
 
 use crate::lines::put_rows;
-use semantics::Listed;
 use text_lines::line::{put_numbers, put_withheld};
 
 // The transition's number, N and W and the bindings, or the number of the menu's refusal.
@@ -19,10 +18,11 @@ pub fn put_menu(
     let mut menu = [0u32; 4096];
     let number = transition as usize;
     match menus::menu::menu(net, transition, marking, 1000000, &mut menu) {
-        Listed::Found(n, w) => {
-            let next = put_numbers(out, 0, number, n as usize, w as usize);
-            put_rows(out, next, &menu, width, n as usize)
+        Ok(listed) => {
+            let n = listed.bindings as usize;
+            let next = put_numbers(out, 0, number, n, listed.tries as usize);
+            put_rows(out, next, &menu, width, n)
         }
-        Listed::Refused(m, _) => put_withheld(out, 0, number, m as usize),
+        Err(e) => put_withheld(out, 0, number, e.number() as usize),
     }
 }

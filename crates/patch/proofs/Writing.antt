@@ -1,21 +1,16 @@
 -- The rules of writing a marking with its changes made: what is still ahead, after what was written, is what was ahead at first.
 -- Each turn of a loop takes one change off the list; words written one after the other are their words written at once.
 use mathlib.Core.Path.{◌≡◌, refl, sym, ap, ◌∙◌}
-use mathlib.Core.Logic.{◌⊎◌, inl, inr}
 use Prim.Native.Nat.{ℕ, zero, suc, ◌+◌, ◌-◌, ◌/◌, ◌%◌, ◌≤◌, ◌<◌}
-use mathlib.Core.Bool.{true, false}
 use mathlib.Core.List.{List, [], ◌∷◌, ◌++◌, map, append-nil, append_assoc}
 use native.Mathlib.Nat.{add-zero, pos_of_ne-zero}
 use native.Mathlib.Numerals.{add-one}
 use native.Mathlib.Omega.{arith}
-use borrow.Author.Tests.{ltb-true, ltb-false}
-use lib.Dec.{ltb}
 use lib.IntN.{ℤ}
 use lib.ListN.{length, get_or, set, take, drop, length-append, length-map, length-set, take-append-drop}
 use lib.Seq.{slice, length-slice, length-take-le, take-length, take_at, drop-append-add, drop-drop, set_split, set-append_left, take-set-lt, drop-set-lt, get_or-drop, get_or-take, paste, paste-suc}
 use Rattle.semantics.specs.Word.{token_word, value_word}
 use Rattle.semantics.specs.Marking.{entry_words}
-use Rattle.semantics.proofs.Tests.{either}
 use Rattle.colours.specs.Code.{of_digit, coloured}
 use Rattle.colours.proofs.Codes.{coloured-length}
 use Rattle.patch.specs.Patch.{Change, patched, Apart, InOrder, written}
@@ -60,9 +55,6 @@ module _ (d : List ℕ) (at : ℕ) where
 pub paste_turn : (d d' s : List ℕ) (at j : ℕ) → d' ≡ paste d at s j → j < length s → at + j < length d → set d' (at + j) (get_or s j 0) ≡ paste d at s (j + 1)
 paste_turn d d' s at j e h l = rw (e, add-one j) (paste-suc d at s j 0 l h)
 
-pub paste-end : (d d' s : List ℕ) (at j : ℕ) → d' ≡ paste d at s j → j ≡ length s → d' ≡ written d at s
-paste-end d d' s at j e h = e ∙ paste-written d at s j h
-
 -- of a part of a list
 pub copy_turn : (ws d d' : List ℕ) (from to at j : ℕ) → d' ≡ paste d at (slice from to ws) j → j < to - from → to ≤ length ws → at + j < length d → set d' (at + j) (get_or ws (from + j) 0) ≡ paste d at (slice from to ws) (j + 1)
 copy_turn ws d d' from to at j e h k l =
@@ -70,20 +62,7 @@ copy_turn ws d d' from to at j e h k l =
     let n = length-slice from to ws k in
     rw (← i) (paste_turn d d' (slice from to ws) at j e (omega arith) l)
 
-pub copy_end : (ws d d' : List ℕ) (from to at j : ℕ) → d' ≡ paste d at (slice from to ws) j → j ≡ to - from → to ≤ length ws → d' ≡ written d at (slice from to ws)
-copy_end ws d d' from to at j e h k = paste-end d d' (slice from to ws) at j e (h ∙ sym (length-slice from to ws k))
-
 -- ── The words of a colour ──
-
-digit_value : (d : ℕ) → d < 16384 → value_word (of_digit d) ≡ 0xC0000000 + (d + 8192) % 16384
-digit_value d h = by (either (ltb d 8192))
-  where
-    by : (ltb d 8192 ≡ true) ⊎ (ltb d 8192 ≡ false) → value_word (of_digit d) ≡ 0xC0000000 + (d + 8192) % 16384
-    by (inl t) = let l = ltb-true d 8192 t in rw t (omega arith)
-    by (inr t) = let l = ltb-false d 8192 t in rw t (omega arith)
-
-pub digit-written : (d w : ℕ) → d < 16384 → w ≡ 0xC0000000 + (d + 8192) % 16384 → w ≡ value_word (of_digit d)
-digit-written d w h e = e ∙ sym (digit_value d h)
 
 -- a word right before words that were written
 set_before : (d : List ℕ) (p w : ℕ) (xs : List ℕ) → p < length d → set (written d (p + 1) xs) p w ≡ written d p (w ∷ xs)
@@ -105,9 +84,6 @@ pub record Filling (d : List ℕ) (at n code j rest : ℕ) (d' : List ℕ) : Typ
   pub same : coloured j rest ++ tail ≡ coloured n code
   pub shown : d' ≡ written d (at + j) (map value_word tail)
   pub long : length d' ≡ length d
-
-pub filling_start : (d : List ℕ) (at n code : ℕ) → Filling d at n code n code d
-filling_start d at n code = record { tail = []; inside = omega arith; same = append-nil (coloured n code); shown = sym (written_none d (at + n)); long = refl }
 
 module _ {d : List ℕ} {at n code j rest : ℕ} {d' : List ℕ} (a : Filling d at n code j rest d') where
   pub filling_turn : 0 < j → at + n ≤ length d → {w : ℕ} → w ≡ value_word (of_digit (rest % 16384)) → Filling d at n code (j - 1) (rest / 16384) (set d' (at + (j - 1)) w)

@@ -21,11 +21,9 @@ fn write_values(code: u64, n: usize, next: &mut [u32], at: usize)
     ensures { next.new ≡ written next.old at (map value_word (coloured n code)) }
 {
     let mut rest = code;
-    let mut j = n;
-    while 0 < j {
-        j -= 1;
+    for j in (0..n).rev() {
         next[at + j] = digit_word(rest % 16384);
-        rest = rest / 16384;
+        rest /= 16384;
     }
 }
 

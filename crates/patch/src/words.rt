@@ -9,9 +9,5 @@ pub fn copy_words(words: &[u32], from: usize, to: usize, next: &mut [u32], at: u
     ensures { next.new ≡ written next.old at (slice from to words.now) }
 {
     let n = to - from;
-    let mut j = 0;
-    while j < n {
-        next[at + j] = words[from + j];
-        j += 1;
-    }
+    next[at..at + n].copy_from_slice(&words[from..to]);
 }

@@ -11,9 +11,11 @@ use lib.IntN.{ℤ}
 use lib.Signed.{mag}
 use lib.ListN.{length, get_or, get_elem?, take, drop, length-map, length-append, length-take}
 use lib.Seq.{take_at, drop_at, drop-drop}
+use Rattle.std.specs.Prelude.{Result, Ok, Err}
 use Rattle.semantics.specs.declared.Listed.{Listed}
-use Rattle.semantics.specs.declared.Listed.TheVariants.{Found, Refused as MenuRefused}
-use Rattle.semantics.specs.Refusal.{no_such_index}
+use Rattle.semantics.specs.declared.refusal.Refusal.{Refusal}
+use Rattle.semantics.specs.declared.refusal.Refusal.TheVariants.{NoSuchIndex}
+use Rattle.semantics.specs.Answer.{Found, MenuRefused, FireRefused, number_of, position_of}
 use Rattle.semantics.specs.Lists.{Every}
 use Rattle.semantics.specs.Word.{value_word}
 use Rattle.semantics.specs.Expression.{house_table}
@@ -49,14 +51,17 @@ use Rattle.menus.specs.Menu.{IsListed}
 use Rattle.rests.specs.Rests.{Rest}
 use Rattle.rests.proofs.Resting.{part-is}
 use Rattle.rests.proofs.Chosen as known
-use Rattle.picks.specs.declared.pick.Picked.{Picked}
 use Rattle.picks.specs.Pick.{Leaves, row, FiresRow, Lists, IsFiredAt, Pickable, IsPicked}
 
 -- ── What was listed ──
 
-withheld-is : (buffer after : List ℕ) (n p : ℕ) (x : Offer) → menu_end (MenuRefused n p) after ≡ listed_by buffer x → x ≡ withheld n
-withheld-is buffer after n p (offered bs w) e = let a : MenuRefused n p ≡ Found (length bs) w = ap (λ (m : MenuEnd). m.answer) e in false_true (cc)
-withheld-is buffer after n p (withheld k) e = let a : MenuRefused n p ≡ MenuRefused k 0 = ap (λ (m : MenuEnd). m.answer) e in cc
+pub record Withheld (e : Refusal) (x : Offer) : Type 0 where
+  pub is : x ≡ withheld (number_of e)
+  pub nowhere : position_of e ≡ 0
+
+withheld-is : (buffer after : List ℕ) (e : Refusal) (x : Offer) → menu_end (Err e) after ≡ listed_by buffer x → Withheld e x
+withheld-is buffer after e (offered bs w) h = let a : MenuRefused (number_of e) (position_of e) ≡ Found (length bs) w = ap (λ (m : MenuEnd). m.answer) h in cc
+withheld-is buffer after e (withheld k) h = let a : MenuRefused (number_of e) (position_of e) ≡ MenuRefused k 0 = ap (λ (m : MenuEnd). m.answer) h in record { is = cc; nowhere = cc }
 
 pub record Offered (buffer after : List ℕ) (n : ℕ) (x : Offer) : Type 0 where
   pub bindings : List (List ℤ)
@@ -65,11 +70,11 @@ pub record Offered (buffer after : List ℕ) (n : ℕ) (x : Offer) : Type 0 wher
   pub many : n ≡ length bindings
   pub words : after ≡ flat_map (map value_word) bindings ++ drop (length (flat_map (map value_word) bindings)) buffer
 
-offered-is : (buffer after : List ℕ) (n w : ℕ) (x : Offer) → menu_end (Found n w) after ≡ listed_by buffer x → Offered buffer after n x
-offered-is buffer after n w (withheld k) e = let a : Found n w ≡ MenuRefused k 0 = ap (λ (m : MenuEnd). m.answer) e in false_true (cc)
-offered-is buffer after n w (offered bs v) e =
-    let a : Found n w ≡ Found (length bs) v = ap (λ (m : MenuEnd). m.answer) e in
-    let l : n ≡ length bs = cc in
+offered-is : (buffer after : List ℕ) (r : Listed) (x : Offer) → menu_end (Ok r) after ≡ listed_by buffer x → Offered buffer after r.bindings x
+offered-is buffer after r (withheld k) e = let a : Found r.bindings r.tries ≡ MenuRefused k 0 = ap (λ (m : MenuEnd). m.answer) e in cc
+offered-is buffer after r (offered bs v) e =
+    let a : Found r.bindings r.tries ≡ Found (length bs) v = ap (λ (m : MenuEnd). m.answer) e in
+    let l : r.bindings ≡ length bs = cc in
     record { bindings = bs; tries = v; is = refl; many = l; words = ap (λ (m : MenuEnd). m.buffer) e }
 
 -- the words of one binding among those of all, which have one width
@@ -180,40 +185,46 @@ module _ {ws ps transitions parts rests begins buffer : List ℕ} {size w : ℕ}
         beginnings = P.full;
       }
 
-  module _ (budget : ℕ) (spare menus : List ℕ) {a : Listed} {after : List ℕ} (i : IsListed ws (get_or transitions (pick_transition w) 0) (take size buffer) budget menus a after) where
+  module _ (budget : ℕ) (spare menus : List ℕ) where
     counts-are : counts_in (marking_read net.places (take size buffer)) ≡ counts_of P.entries
     counts-are = rw P.marked
 
-    offer-is : menu_end a after ≡ listed_by menus (offer house_table net budget (length menus) chosen.0 (counts_of P.entries))
-    offer-is = i.listed ∙ ap (λ (s : Situation). listed_by menus (offer house_table s.net budget (length menus) s.transition s.counts)) scene_is
+    abbrev offers : Offer
+    offers = offer house_table net budget (length menus) chosen.0 (counts_of P.entries)
 
-    pick_is : pick house_table net (limits budget buffer spare menus) (counts_in (marking_read net.places (take size buffer))) w ≡ pick_from house_table net (limits budget buffer spare menus) chosen.0 (counts_of P.entries) (pick_index w) (offer house_table net budget (length menus) chosen.0 (counts_of P.entries))
+    abbrev picking : Offer → Firing
+    picking = pick_from house_table net (limits budget buffer spare menus) chosen.0 (counts_of P.entries) (pick_index w)
+
+    offer-is : {a : Result Listed Refusal} {after : List ℕ} → IsListed ws (get_or transitions (pick_transition w) 0) (take size buffer) budget menus a after → menu_end a after ≡ listed_by menus offers
+    offer-is i = i.listed ∙ ap (λ (s : Situation). listed_by menus (offer house_table s.net budget (length menus) s.transition s.counts)) scene_is
+
+    pick_is : pick house_table net (limits budget buffer spare menus) (counts_in (marking_read net.places (take size buffer))) w ≡ picking offers
     unfolding pick
     pick_is = rw (chosen.1, counts-are)
 
-    leaves_by : {r : Picked} {b begins' : List ℕ} {x : Firing} → pick_from house_table net (limits budget buffer spare menus) chosen.0 (counts_of P.entries) (pick_index w) (offer house_table net budget (length menus) chosen.0 (counts_of P.entries)) ≡ x → Leaves net buffer size r b x → BeginsThen net begins begins' x → IsPicked ws budget begins buffer size spare menus w r b begins'
+    leaves_by : {r : Result ℕ Refusal} {b begins' : List ℕ} {x : Firing} → picking offers ≡ x → Leaves net buffer size r b x → BeginsThen net begins begins' x → IsPicked ws budget begins buffer size spare menus w r b begins'
     leaves_by {r} {b} {begins'} e l m = record { picked = subst (Leaves net buffer size r b) (sym (pick_is ∙ e)) l; begun = subst (BeginsThen net begins begins') (sym (pick_is ∙ e)) m }
 
     -- 10 and 11
-    pub pick-withheld : {n p : ℕ} → a ≡ MenuRefused n p → IsPicked ws budget begins buffer size spare menus w (record { refusal = n; length = size }) buffer begins
-    pick-withheld {n} {p} d =
-        let o = withheld-is menus after n p (offer house_table net budget (length menus) chosen.0 (counts_of P.entries)) (subst (λ (x : Listed). menu_end x after ≡ listed_by menus (offer house_table net budget (length menus) chosen.0 (counts_of P.entries))) d offer-is) in
-        leaves_by (ap (pick_from house_table net (limits budget buffer spare menus) chosen.0 (counts_of P.entries) (pick_index w)) o) (refl, refl) refl
+    pub pick-withheld : {e : Refusal} {after : List ℕ} → IsListed ws (get_or transitions (pick_transition w) 0) (take size buffer) budget menus (Err e) after → IsPicked ws budget begins buffer size spare menus w (Err e) buffer begins
+    pick-withheld {e} {after} i =
+        let o = withheld-is menus after e offers (offer-is i) in
+        leaves_by (ap picking o.is) (ap (FireRefused (number_of e)) o.nowhere, refl) refl
 
-    module _ {n v : ℕ} (d : a ≡ Found n v) where
-      lists : Offered menus after n (offer house_table net budget (length menus) chosen.0 (counts_of P.entries))
-      lists = offered-is menus after n v (offer house_table net budget (length menus) chosen.0 (counts_of P.entries)) (subst (λ (x : Listed). menu_end x after ≡ listed_by menus (offer house_table net budget (length menus) chosen.0 (counts_of P.entries))) d offer-is)
+    module _ {r : Listed} {after : List ℕ} (i : IsListed ws (get_or transitions (pick_transition w) 0) (take size buffer) budget menus (Ok r) after) where
+      lists : Offered menus after r.bindings offers
+      lists = offered-is menus after r offers (offer-is i)
 
-      picks_at : {o : Option (List ℤ)} → get_elem? lists.bindings (pick_index w) ≡ o → pick_from house_table net (limits budget buffer spare menus) chosen.0 (counts_of P.entries) (pick_index w) (offer house_table net budget (length menus) chosen.0 (counts_of P.entries)) ≡ fire_at house_table net (limits budget buffer spare menus) chosen.0 (counts_of P.entries) o
-      picks_at e = ap (pick_from house_table net (limits budget buffer spare menus) chosen.0 (counts_of P.entries) (pick_index w)) lists.is ∙ ap (fire_at house_table net (limits budget buffer spare menus) chosen.0 (counts_of P.entries)) e
+      picks_at : {o : Option (List ℤ)} → get_elem? lists.bindings (pick_index w) ≡ o → picking offers ≡ fire_at house_table net (limits budget buffer spare menus) chosen.0 (counts_of P.entries) o
+      picks_at e = ap picking lists.is ∙ ap (fire_at house_table net (limits budget buffer spare menus) chosen.0 (counts_of P.entries)) e
 
       -- 12
-      pub pick_past : n ≤ w % 16384 → IsPicked ws budget begins buffer size spare menus w (record { refusal = no_such_index; length = size }) buffer begins
+      pub pick_past : r.bindings ≤ w % 16384 → IsPicked ws budget begins buffer size spare menus w (Err NoSuchIndex) buffer begins
       pick_past h = let m = lists.many in let x = index_is in leaves_by (picks_at (past_elem lists.bindings (pick_index w) (omega arith))) (refl, refl) refl
 
       -- ── The binding at its index ──
 
-      module _ (h : w % 16384 < n) where
+      module _ (h : w % 16384 < r.bindings) where
         abbrev v' : ℕ
         v' = variables_in head
 
@@ -300,6 +311,6 @@ module _ {ws ps transitions parts rests begins buffer : List ℕ} {size w : ℕ}
           };
         }
 
-        pub pick-fired : {r : Picked} {b begins' : List ℕ} → IsFiredAt ws ps (inputs_in head own) (outputs_in head own) begins buffer size spare (row v' (w % 16384) after) r b begins' → IsPicked ws budget begins buffer size spare menus w r b begins'
+        pub pick-fired : {o : Result ℕ Refusal} {b begins' : List ℕ} → IsFiredAt ws ps (inputs_in head own) (outputs_in head own) begins buffer size spare (row v' (w % 16384) after) o b begins' → IsPicked ws budget begins buffer size spare menus w o b begins'
         unfolding fireable
         pick-fired f = leaves_by (picks_at (ap (get_elem? lists.bindings) (sym index_is) ∙ picked.1)) (f.fired (guard_in head own) fireable b_enabled) (f.begun (guard_in head own) fireable b_enabled)

@@ -1,6 +1,6 @@
 -- What a pick leaves: the marking after it at the front of the buffer, or the marking before it and the refusal.
 -- Rests on semantics/specs/Run, firing/specs/Fire, starts/specs/Known, net/specs/Parted and rests/specs/Rests.
-use Rattle.std.specs.Prelude.{◌≡◌, true, List, ℕ, ◌+◌, ◌*◌, min, ◌≤◌, ◌<◌, length, take, drop}
+use Rattle.std.specs.Prelude.{◌≡◌, true, List, ℕ, ◌+◌, ◌*◌, min, ◌≤◌, ◌<◌, length, take, drop, Result}
 use Rattle.semantics.specs.Reading.{read}
 use Rattle.semantics.specs.Expression.{house_table}
 use Rattle.semantics.specs.Net.{Net}
@@ -18,12 +18,13 @@ use Rattle.arrivals.specs.World.{World}
 use Rattle.search.specs.Scene.{net_of, counts_in, scene_of}
 use Rattle.starts.specs.Known.{NetKnown}
 use Rattle.rests.specs.Rests.{Rest, RestsKept}
-use Rattle.picks.specs.declared.pick.Picked.{Picked}
+use Rattle.semantics.specs.declared.refusal.Refusal.{Refusal}
+use Rattle.semantics.specs.Answer.{Written, FireRefused, fired_of}
 
 -- the marking after a firing at the front of the buffer, or the one before it and the refusal
-abbrev pub Leaves : Net → List ℕ → ℕ → Picked → List ℕ → Firing → Type 0
-Leaves net buffer length' r after (moved m) = (r.refusal ≡ 0) × (r.length ≡ length (marking_words net m)) × (take r.length after ≡ marking_words net m)
-Leaves net buffer length' r after (stopped n) = (r.refusal ≡ n) × (take length' after ≡ take length' buffer)
+abbrev pub Leaves : Net → List ℕ → ℕ → Result ℕ Refusal → List ℕ → Firing → Type 0
+Leaves net buffer size r after (moved m) = (fired_of r ≡ Written (length (marking_words net m))) × (take (length (marking_words net m)) after ≡ marking_words net m)
+Leaves net buffer size r after (stopped n) = (fired_of r ≡ FireRefused n 0) × (take size after ≡ take size buffer)
 
 -- a binding of a transition, whose arcs stand at these positions, is enabled in the marking at the front of a buffer
 pub record Fires (ws ps is os begins buffer : List ℕ) (size : ℕ) (bs : List ℕ) : Type 0 where
@@ -48,7 +49,7 @@ pub record FiresRow (ws ps : List ℕ) (head : ℕ) (own begins buffer : List �
   pub fires : Fires ws ps (inputs_in head own) (outputs_in head own) begins buffer size (row (variables_in head) index menu)
 
 -- what is left where an enabled binding is fired, wherever its conjuncts stand
-pub record IsFiredAt (ws ps is os begins buffer : List ℕ) (size : ℕ) (spare bs : List ℕ) (r : Picked) (after begins' : List ℕ) : Type 0 where
+pub record IsFiredAt (ws ps is os begins buffer : List ℕ) (size : ℕ) (spare bs : List ℕ) (r : Result ℕ Refusal) (after begins' : List ℕ) : Type 0 where
   pub fired : (gs : List ℕ) (q : FireableAt ws ps gs is os (take size buffer) begins bs) → is_enabled house_table q.transition (counts_of q.entries) q.binding ≡ true → Leaves q.net buffer size r after (fire house_table q.net (min (length buffer) (length spare)) q.transition (counts_of q.entries) q.binding)
   pub begun : (gs : List ℕ) (q : FireableAt ws ps gs is os (take size buffer) begins bs) → is_enabled house_table q.transition (counts_of q.entries) q.binding ≡ true → BeginsThen q.net begins begins' (fire house_table q.net (min (length buffer) (length spare)) q.transition (counts_of q.entries) q.binding)
 
@@ -72,6 +73,6 @@ pub record Pickable (ws ps transitions parts rests begins buffer : List ℕ) (si
   pub begun : Begins (net_of (accept_net ws)).places entries begins
   pub there : pick_transition w < length (net_of (accept_net ws)).transitions
 
-pub record IsPicked (ws : List ℕ) (budget : ℕ) (begins buffer : List ℕ) (size : ℕ) (spare menu : List ℕ) (w : ℕ) (r : Picked) (after begins' : List ℕ) : Type 0 where
+pub record IsPicked (ws : List ℕ) (budget : ℕ) (begins buffer : List ℕ) (size : ℕ) (spare menu : List ℕ) (w : ℕ) (r : Result ℕ Refusal) (after begins' : List ℕ) : Type 0 where
   pub picked : Leaves (net_of (accept_net ws)) buffer size r after (pick house_table (net_of (accept_net ws)) (limits budget buffer spare menu) (counts_in (marking_read (net_of (accept_net ws)).places (take size buffer))) w)
   pub begun : BeginsThen (net_of (accept_net ws)) begins begins' (pick house_table (net_of (accept_net ws)) (limits budget buffer spare menu) (counts_in (marking_read (net_of (accept_net ws)).places (take size buffer))) w)

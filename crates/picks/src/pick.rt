@@ -6,17 +6,11 @@ ghost use Rattle.picks.specs.Pick.{Pickable, IsPicked, Lists, Fires, FiresRow, r
 use firing::fire::fire_enabled;
 use menus::menu::list_bindings;
 use patch::words::copy_words;
-use semantics::{Fired, Listed};
+use semantics::Listed;
+use semantics::refusal::Refusal;
 use word::size::at_most;
 
-// The refusal that stops a pick, 0 for none, and the length of the marking after it.
-#[derive(Clone, Copy)]
-pub struct Picked {
-    pub refusal: u32,
-    pub length: usize,
-}
-
-// Fires an enabled binding into the spare, and copies the new marking back. The arcs of the transition stand at these positions.
+// Fires an enabled binding into the spare, and copies the new marking back; its length is answered. The arcs of the transition stand at these positions.
 fn fire_at(
     net: &[u32],
     places: &[usize],
@@ -27,12 +21,12 @@ fn fire_at(
     length: usize,
     spare: &mut [u32],
     binding: &[u32],
-) -> Picked
+) -> Result<usize, Refusal>
     requires { Fires net.now places.now inputs.now outputs.now begins.old buffer.old length binding.now }
     ensures { IsFiredAt net.now places.now inputs.now outputs.now begins.old buffer.old length spare.old binding.now result buffer.new begins.new }
 {
     let room = at_most(buffer.len(), spare.len());
-    match fire_enabled(
+    let next = fire_enabled(
         net,
         places,
         inputs,
@@ -41,19 +35,9 @@ fn fire_at(
         begins,
         binding,
         &mut spare[..room],
-    ) {
-        Fired::Refused(n, _) => Picked {
-            refusal: n,
-            length: length,
-        },
-        Fired::Written(next) => {
-            copy_words(spare, 0, next, buffer, 0);
-            Picked {
-                refusal: 0,
-                length: next,
-            }
-        }
-    }
+    )?;
+    copy_words(spare, 0, next, buffer, 0);
+    Ok(next)
 }
 
 // Fires the binding that stands at an index of the menu. The parts of the transition with this word stand at these 32 positions.
@@ -68,7 +52,7 @@ fn fire_row(
     spare: &mut [u32],
     menu: &[u32],
     index: usize,
-) -> Picked
+) -> Result<usize, Refusal>
     requires { FiresRow net.now places.now head own.now begins.old buffer.old length menu.now index }
     ensures { IsFiredAt net.now places.now (inputs_in head own.now) (outputs_in head own.now) begins.old buffer.old length spare.old (row (variables_in head) index menu.now) result buffer.new begins.new }
 {
@@ -102,7 +86,7 @@ fn list_menu(
     begins: &[usize],
     limit: u32,
     menu: &mut [u32],
-) -> Listed
+) -> Result<Listed, Refusal>
     requires { Lists net.now places.now position head own.now rest.now marking.now begins.now }
     ensures { IsListed net.now position marking.now limit menu.old result menu.new }
 {
@@ -141,7 +125,7 @@ pub fn pick_once(
     spare: &mut [u32],
     menu: &mut [u32],
     w: u32,
-) -> Picked
+) -> Result<usize, Refusal>
     requires { Pickable net.now places.now transitions.now parts.now rests.now begins.old buffer.old length w }
     ensures { IsPicked net.now budget begins.old buffer.old length spare.old menu.old w result buffer.new begins.new }
 {
@@ -152,7 +136,7 @@ pub fn pick_once(
     let from = number * 32;
     let own = &parts[from..from + 32];
     let at = number * 9;
-    match list_menu(
+    let listed = list_menu(
         net,
         places,
         position,
@@ -163,21 +147,11 @@ pub fn pick_once(
         begins,
         budget,
         menu,
-    ) {
-        Listed::Refused(n, _) => Picked {
-            refusal: n,
-            length: length,
-        },
-        Listed::Found(count, _) => {
-            if count as usize <= index {
-                return Picked {
-                    refusal: 12,
-                    length: length,
-                };
-            }
-            fire_row(
-                net, places, head, own, begins, buffer, length, spare, menu, index,
-            )
-        }
+    )?;
+    if listed.bindings as usize <= index {
+        return Err(Refusal::NoSuchIndex);
     }
+    fire_row(
+        net, places, head, own, begins, buffer, length, spare, menu, index,
+    )
 }

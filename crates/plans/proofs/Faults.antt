@@ -1,89 +1,63 @@
 -- The rules of faults: where a plan is at fault, from what its elements bind. Each rule is one arm of the code; in the loops what is still
 -- ahead is what was ahead at first.
 use mathlib.Core.Path.{◌≡◌, refl, sym, ap, ◌∙◌, fun_ext}
-use Prim.Native.Nat.{ℕ, zero, suc, ◌+◌, ◌-◌, ◌*◌, ◌/◌, ◌≤◌, ◌<◌}
+use Prim.Native.Nat.{ℕ, ◌+◌, ◌-◌, ◌*◌, ◌/◌, ◌≤◌, ◌<◌}
 use mathlib.Core.Bool.{Bool, true, false, cond, ◌||◌}
 use mathlib.Core.List.{List, [], ◌∷◌, ◌++◌}
 use mathlib.Core.Option.{Option, none, some}
+use Rattle.std.specs.Prelude as prelude
+use Rattle.std.specs.Prelude.{Some, None, Result, Ok, Err}
+use Rattle.std.specs.Option.{option_or}
 use native.Mathlib.Numerals.{add-one}
 use native.Mathlib.Omega.{arith}
 use borrow.Author.Rules.{rules}
-use lib.ListN.{length, get_or, drop, take, set, replicate, length-drop, drop_of_length-le}
-use lib.Seq.{length-take-le, drop-cons, get_or-set_same, get_or-set_other}
+use lib.ListN.{length, get_or, drop, take, set, drop_of_length-le}
+use lib.Seq.{drop-cons, get_or-set_same, get_or-set_other}
 use Rattle.semantics.specs.Plan.{member, every_below, fit_or, first_of as first_fault}
 use Rattle.semantics.specs.Net as net
-use Rattle.semantics.specs.Reading.{read, refused}
+use Rattle.semantics.specs.Reading.{read}
 use Rattle.semantics.specs.ReadNet.{read_element, sort_of}
 use mathlib.Core.Logic.{◌⊎◌, inl, inr}
 use borrow.Author.Tests.{ltb-true, ltb-false}
 use lib.Dec.{ltb}
-use Rattle.semantics.proofs.Tests.{either, false_true}
-use Rattle.expression.proofs.Laws.{next-refused}
+use Rattle.semantics.proofs.Tests.{either, not_both, false_true}
+use Rattle.semantics.proofs.Partial.{every_below_at}
 use Rattle.net.proofs.Tables.{part_same}
-use Rattle.semantics.proofs.Members.{past_elem, elem_number, replicate-same}
-use Rattle.expression.specs.declared.read.Skipped.{Skipped}
-use Rattle.expression.specs.declared.read.Skipped.TheVariants.{Next, Refused}
+use Rattle.semantics.proofs.Members.{past_elem, elem_number}
+use Rattle.semantics.specs.declared.refusal.Refusal.{Refusal}
+use Rattle.semantics.specs.Answer.{option_of, refusing}
+use Rattle.expression.specs.Skip.{forget}
 use Rattle.kinds.specs.Taken.{fits_kind, taken, IsTaken}
-use Rattle.net.specs.Skim.{Outline, skim_transition, skim_transitions}
+use Rattle.net.specs.Skim.{Outline, skim_transitions}
 use Rattle.semantics.specs.Word.{bits}
 use Rattle.net.proofs.Loops.{Collected, collected_start, collected_goes, collected_stops, collected_end, take-set}
-use Rattle.net.proofs.Transitions.{skips}
-use Rattle.kinds.specs.declared.take.Taken.{Taken}
-use Rattle.kinds.specs.declared.take.Taken.TheVariants.{Word, Refused as TakeRefused}
 use Rattle.net.specs.declared.index.Parts.{Parts}
-use Rattle.net.specs.Index.{up_to, outlined, PartsRead}
+use Rattle.net.specs.Index.{outlined, PartsRead}
 use Rattle.elements.specs.declared.element.Sort.{Sort}
 use Rattle.elements.specs.declared.element.Sort.TheVariants.{Match, Solve, Range}
-use Rattle.plans.specs.declared.plan.Fault.{Fault}
-use Rattle.plans.specs.declared.plan.Fault.TheVariants.{Nothing}
 use Rattle.plans.specs.declared.plan.Reviewed.{Reviewed}
 use Rattle.plans.specs.Fitness.{binds_at, element_or, fault_from, fault_in, transition_fault, fault_among}
 use Rattle.elements.specs.Binds.{unbound_of, match_at, solve_at}
 use Rattle.plans.specs.Fitness.{plan_parts}
-use Rattle.plans.specs.Plan.{fault, OwnParts, IsReviewed, IsBase, AreKept, AreReviewed}
+use Rattle.plans.specs.Plan.{end_of, fault_of, OwnParts, IsReviewed, IsBase, AreKept, AreReviewed}
 use Rattle.elements.specs.Bound.{sorted, marked, non_empty, IsBound}
 use Rattle.elements.proofs.Binding.{bound-none}
 
 -- ── Variables that are not bound ──
 
-below_bound : (n : ℕ) (p : ℕ → Bool) → 0 < n → p (n - 1) ≡ true → every_below n p ≡ every_below (n - 1) p
+below_unbound : (v : ℕ) (p : ℕ → Bool) (n : ℕ) → n < v → p n ≡ false → every_below v p ≡ false
+below_unbound v p n h e = by (either (every_below v p))
+  where
+    by : (every_below v p ≡ true) ⊎ (every_below v p ≡ false) → every_below v p ≡ false
+    by (inl q) = absurd (not_both (p n) (every_below_at v p q n h) e)
+    by (inr q) = q
+
+pub bounded_turn : (p : ℕ → Bool) (n : ℕ) → every_below n p ≡ true → p n ≡ true → every_below (n + 1) p ≡ true
 unfolding every_below
-below_bound zero p h e = absurd (omega arith)
-below_bound (suc n) p h e =
-    let d : suc n - 1 ≡ n = omega arith in
-    let f : p n ≡ true = rw d at e in
-    rw (f, d)
+bounded_turn p n a e = rw (add-one n, e, a)
 
-below_unbound : (n : ℕ) (p : ℕ → Bool) → 0 < n → p (n - 1) ≡ false → every_below n p ≡ false
-unfolding every_below
-below_unbound zero p h e = absurd (omega arith)
-below_unbound (suc n) p h e =
-    let d : suc n - 1 ≡ n = omega arith in
-    let f : p n ≡ false = rw d at e in
-    rw f
-
--- those from n on are bound
-pub record Bounded (v : ℕ) (marks : List Bool) (n : ℕ) : Type 0 where
-  pub inside : n ≤ v
-  pub same : every_below v (marked marks) ≡ every_below n (marked marks)
-
-pub bounded-start : (v : ℕ) (marks : List Bool) → Bounded v marks v
-bounded-start v marks = record { inside = omega arith; same = refl }
-
-module _ {v : ℕ} {marks : List Bool} {n : ℕ} (a : Bounded v marks n) where
-  pub bounded_turn : 0 < n → marked marks (n - 1) ≡ true → Bounded v marks (n - 1)
-  bounded_turn h e =
-      let i = a.inside in
-      record { inside = omega arith; same = a.same ∙ below_bound n (marked marks) h e }
-
-  pub bounded-stop : (at : ℕ) → 0 < n → marked marks (n - 1) ≡ false → some at ≡ cond (every_below v (marked marks)) none (some at)
-  bounded-stop at h e = rw (a.same ∙ below_unbound n (marked marks) h e)
-
-  pub bounded-end : (at : ℕ) → n ≤ 0 → none ≡ cond (every_below v (marked marks)) none (some at)
-  unfolding every_below
-  bounded-end at h =
-      let d : n ≡ 0 = omega arith in
-      rw (a.same, d)
+pub bounded-stop : (v : ℕ) (p : ℕ → Bool) (n at : ℕ) → n < v → p n ≡ false → some at ≡ cond (every_below v p) none (some at)
+bounded-stop v p n at h e = rw (below_unbound v p n h e)
 
 -- ── What an element binds ──
 
@@ -120,19 +94,19 @@ module _ (ws widths : List ℕ) (o : Outline) (ps : List ℕ) (at : ℕ) {marks 
   plan-next h = a.same ∙ ap (fault_from ws widths o at (marked marks)) (drop-cons ps i 0 h ∙ ap (λ (k : ℕ). get_or ps i 0 ∷ drop k ps) (sym (add-one i)))
 
   -- the element at the next position
-  element_at : {t : Taken} {w : ℕ} → IsTaken ws (get_or ps i 0) 0xA t → t ≡ Word w → read_element ws (get_or ps i 0) ≡ read (record { position = get_or ps i 0; sort = sort_of (bits 8 9 w) (bits 0 7 w) }) (get_or ps i 0 + 1)
+  element_at : {t : Result ℕ Refusal} {w : ℕ} → IsTaken ws (get_or ps i 0) 0xA t → t ≡ Ok w → read_element ws (get_or ps i 0) ≡ read (record { position = get_or ps i 0; sort = sort_of (bits 8 9 w) (bits 0 7 w) }) (get_or ps i 0 + 1)
   unfolding read_element fits_kind
   element_at x e = rw (sym x.same ∙ ap (taken (get_or ps i 0)) e)
 
-  element-none : {t : Taken} {m q : ℕ} → IsTaken ws (get_or ps i 0) 0xA t → t ≡ TakeRefused m q → read_element ws (get_or ps i 0) ≡ refused m q
+  element-none : {t : Result ℕ Refusal} {e : Refusal} → IsTaken ws (get_or ps i 0) 0xA t → t ≡ Err e → read_element ws (get_or ps i 0) ≡ refusing e
   unfolding read_element fits_kind
   element-none x e = rw (sym x.same ∙ ap (taken (get_or ps i 0)) e)
 
-  pub plan-unread : i < length ps → {t : Taken} {m q : ℕ} → IsTaken ws (get_or ps i 0) 0xA t → t ≡ TakeRefused m q → some (get_or ps i 0) ≡ fault_from ws widths o at (λ k. false) ps
+  pub plan-unread : i < length ps → {t : Result ℕ Refusal} {e : Refusal} → IsTaken ws (get_or ps i 0) 0xA t → t ≡ Err e → some (get_or ps i 0) ≡ fault_from ws widths o at (λ k. false) ps
   unfolding fault_from
   plan-unread h x e = sym (plan-next h ∙ rw (element-none x e))
 
-  module _ (h : i < length ps) {t : Taken} {w : ℕ} (x : IsTaken ws (get_or ps i 0) 0xA t) (e : t ≡ Word w) (s : Sort) (y : sorted s ≡ sort_of (bits 8 9 w) (bits 0 7 w)) {r : Bool} {marks' : List Bool} (z : IsBound marks (binds_at ws widths o (marked marks) (sorted s)) r marks') where
+  module _ (h : i < length ps) {t : Result ℕ Refusal} {w : ℕ} (x : IsTaken ws (get_or ps i 0) 0xA t) (e : t ≡ Ok w) (s : Sort) (y : sorted s ≡ sort_of (bits 8 9 w) (bits 0 7 w)) {r : Bool} {marks' : List Bool} (z : IsBound marks (binds_at ws widths o (marked marks) (sorted s)) r marks') where
     pub plan_unfit : r ≡ false → some (get_or ps i 0) ≡ fault_from ws widths o at (λ k. false) ps
     unfolding fault_from
     plan_unfit f = sym (plan-next h ∙ rw (element_at x e, ← y) (by (binds_at ws widths o (marked marks) (sorted s)) (sym z.some ∙ f)))
@@ -155,9 +129,6 @@ module _ (ws widths : List ℕ) (o : Outline) (ps : List ℕ) (at : ℕ) {marks 
 
 -- ── The plan of a transition ──
 
-pub planned_start : (ws widths : List ℕ) (o : Outline) (ps : List ℕ) (at : ℕ) → Planned ws widths o ps at (replicate 8 false) 0
-planned_start ws widths o ps at = record { inside = omega arith; same = ap (λ (p : ℕ → Bool). fault_from ws widths o at p ps) (fun_ext (λ k. sym (replicate-same 8 k false))) }
-
 -- the parts that a plan names are all that its faults are told from
 parts-fault : (ws widths : List ℕ) (o : Outline) (at : ℕ) (is_bound : ℕ → Bool) (ps : List ℕ) → fault_from ws widths (plan_parts o.variables o.inputs o.guard) at is_bound ps ≡ fault_from ws widths o at is_bound ps
 unfolding fault_from binds_at
@@ -174,31 +145,27 @@ parts-fault ws widths o at is_bound (p ∷ ps) =
     same (net.range n) = refl
 
 -- a transition whose parts stand in a table
-module _ (ws widths : List ℕ) (at : ℕ) {table : List ℕ} {base : ℕ} (t : Parts) {after : List ℕ} (x : PartsRead ws widths at table base t after) where
-  abbrev own : List ℕ
-  own = take 32 (drop base after)
-
-  read_to : {end : Skipped} → t.end ≡ end → skim_transition ws widths at ≡ up_to end (outlined t own)
-  read_to e = sym x.parts.same ∙ ap (λ (k : Skipped). up_to k (outlined t own)) e
-
-  abbrev reviewed : Fault → Reviewed
-  reviewed f = record { end = t.end; fault = f }
-
-  with_fault : (f : Fault) → fault f ≡ transition_fault ws widths at → IsReviewed ws widths at table base (reviewed f) after
-  with_fault f h = record { ends = skips t.end (outlined t own) x.parts.same; faults = h; parts = record { counted = t; are = x.parts }; before = x.before }
-
-  pub unread-plan : {n p : ℕ} → t.end ≡ Refused n p → IsReviewed ws widths at table base (reviewed Nothing) after
-  unread-plan e = with_fault Nothing (sym (ap (fault_in ws widths at) (read_to e)))
-
+module _ (ws widths : List ℕ) (at : ℕ) {table : List ℕ} {base : ℕ} {after : List ℕ} where
   -- the parts of a table as the code lends them, by numbers that are told as differences
-  pub plan-read : {next : ℕ} (f : Fault) (m g p : ℕ) → t.end ≡ Next next → m ≡ 32 → g ≡ t.conjuncts → p ≡ t.elements → fault f ≡ fault_from ws widths (plan_parts t.variables (take t.inputs (take m (drop base after))) (take g (drop 16 (take m (drop base after))))) at (λ k. false) (take p (drop 24 (take m (drop base after)))) → IsReviewed ws widths at table base (reviewed f) after
-  plan-read f m g p e a b c y = with_fault f ((rw (a, b, c) at y) ∙ parts-fault ws widths (outlined t own) at (λ k. false) (take t.elements (drop 24 own)) ∙ sym (ap (fault_in ws widths at) (read_to e)))
+  module _ (t : Parts) (end : ℕ) (x : PartsRead ws widths at table base (Ok (t, end)) after) where
+    abbrev own : List ℕ
+    own = take 32 (drop base after)
 
--- the front of 32 numbers of a table has as many as were asked for
-pub own-front : (l : List ℕ) (base m n : ℕ) → m ≡ 32 → base + 32 ≤ length l → n ≤ 8 → n ≡ length (take n (take m (drop base l)))
-own-front l base m n e h k = sym (length-take-le n (take m (drop base l)) (omega (arith, length-take-le m (drop base l) (omega (arith, length-drop base l)))))
+    pub plan-read : (f : prelude.Option ℕ) (m g p : ℕ) → m ≡ 32 → g ≡ t.conjuncts → p ≡ t.elements → option_of f ≡ fault_from ws widths (plan_parts t.variables (take t.inputs (take m (drop base after))) (take g (drop 16 (take m (drop base after))))) at (λ k. false) (take p (drop 24 (take m (drop base after)))) → IsReviewed ws widths at table base (Ok (record { end = end; fault = f })) after
+    plan-read f m g p a b c y =
+        record {
+          ends = ap forget x.parts.same;
+          faults = (rw (a, b, c) at y) ∙ parts-fault ws widths (outlined t own) at (λ k. false) (take t.elements (drop 24 own)) ∙ ap (fault_in ws widths at) x.parts.same;
+          parts = record { counted = Ok (t, end); are = x.parts };
+          before = x.before;
+        }
 
 -- ── Transitions, one after the other ──
+
+-- the first of two faults
+earlier : (a b : prelude.Option ℕ) → option_of (option_or a b) ≡ first_fault (option_of a) (option_of b)
+earlier (Some p) b = refl
+earlier None b = refl
 
 -- one more transition
 among_last : (ws widths ats : List ℕ) (at : ℕ) → fault_among ws widths (ats ++ (at ∷ [])) ≡ first_fault (fault_among ws widths ats) (transition_fault ws widths at)
@@ -227,7 +194,7 @@ base_own i first last g h = record { inside = omega arith; own = λ k e l. omega
 
 -- one transition more
 module _ {ws widths : List ℕ} {i first next : ℕ} {begins table : List ℕ} (K : AreKept ws widths i begins first table) (h : i < length begins) where
-  kept_turn : {last base : ℕ} {t : Reviewed} {after : List ℕ} → IsBase i first last base → last + 32 ≡ length table → length after ≡ length table → IsReviewed ws widths next table base t after → AreKept ws widths (i + 1) (set begins i next) first after
+  kept_turn : {last base : ℕ} {t : Result Reviewed Refusal} {after : List ℕ} → IsBase i first last base → last + 32 ≡ length table → length after ≡ length table → IsReviewed ws widths next table base t after → AreKept ws widths (i + 1) (set begins i next) first after
   kept_turn {last} {base} {t} {after} b l m x = record { each = λ k g r. by k g r (either (ltb (first + k) i)) }
     where
       by : (k : ℕ) → first + k < i + 1 → k * 32 + 64 ≤ length after → (ltb (first + k) i ≡ true) ⊎ (ltb (first + k) i ≡ false) → OwnParts ws widths (get_or (set begins i next) (first + k) 0) (take 32 (drop (k * 32) after))
@@ -240,32 +207,37 @@ module _ {ws widths : List ℕ} {i first next : ℕ} {begins table : List ℕ} (
           rw (e, get_or-set_same begins i next 0 h, ← o) x.parts
 
 -- the i first of n transitions were read, f is the first fault of their plans, and their parts are kept
-pub record Reviewing (ws widths : List ℕ) (n at i next : ℕ) (begins : List ℕ) (f : Fault) (first : ℕ) (table : List ℕ) : Type 0 where
+pub record Reviewing (ws widths : List ℕ) (n at i next : ℕ) (begins : List ℕ) (f : prelude.Option ℕ) (first : ℕ) (table : List ℕ) : Type 0 where
   pub collected : Collected (skim_transitions ws widths) n at i next begins
-  pub faults : fault f ≡ fault_among ws widths (take i begins)
+  pub faults : option_of f ≡ fault_among ws widths (take i begins)
   pub kept : AreKept ws widths i begins first table
 
-pub reviewing_start : (ws widths : List ℕ) (n at : ℕ) (begins : List ℕ) (first : ℕ) (table : List ℕ) → Reviewing ws widths n at 0 at begins Nothing first table
+pub reviewing_start : (ws widths : List ℕ) (n at : ℕ) (begins : List ℕ) (first : ℕ) (table : List ℕ) → Reviewing ws widths n at 0 at begins None first table
 unfolding fault_among
 reviewing_start ws widths n at begins first table = record { collected = collected_start (skim_transitions ws widths) n at begins; faults = refl; kept = record { each = λ k h. absurd (omega arith) } }
 
-module _ {ws widths : List ℕ} {n at i next : ℕ} {begins : List ℕ} {f : Fault} {first : ℕ} {table : List ℕ} (a : Reviewing ws widths n at i next begins f first table) where
-  pub reviewing_end : n ≤ i → AreReviewed ws widths n at begins first table (record { end = Next next; fault = f })
+module _ {ws widths : List ℕ} {n at i next : ℕ} {begins : List ℕ} {f : prelude.Option ℕ} {first : ℕ} {table : List ℕ} (a : Reviewing ws widths n at i next begins f first table) where
+  pub reviewing_end : n ≤ i → AreReviewed ws widths n at begins first table (Ok (record { end = next; fault = f }))
   reviewing_end h =
       let g = a.collected.gathered.inside in
       let e : i ≡ n = omega arith in
-      record { same = collected_end a.collected h; faults = λ k d. rw e at a.faults; kept = λ k d. rw e at a.kept }
+      record {
+        same = collected_end a.collected h;
+        faults = λ t d. let q : f ≡ t.fault = cc in rw (e, q) at a.faults;
+        kept = λ t d. rw e at a.kept;
+      }
 
-  module _ (h : i < n) {base : ℕ} {t : Reviewed} {after : List ℕ} (x : IsReviewed ws widths next table base t after) where
-    pub reviewing_goes : {last p : ℕ} {g : Fault} → n ≤ length begins → IsBase i first last base → last + 32 ≡ length table → length after ≡ length table → t.end ≡ Next p → fault g ≡ first_fault (fault f) (fault t.fault) → Reviewing ws widths n at (i + 1) p (set begins i next) g first after
-    reviewing_goes l b r m d e =
+  module _ (h : i < n) {base : ℕ} {r : Result Reviewed Refusal} {after : List ℕ} (x : IsReviewed ws widths next table base r after) where
+    pub reviewing_goes : {last : ℕ} {t : Reviewed} → n ≤ length begins → IsBase i first last base → last + 32 ≡ length table → length after ≡ length table → r ≡ Ok t → Reviewing ws widths n at (i + 1) t.end (set begins i next) (option_or f t.fault) first after
+    reviewing_goes {last} {t} l b u m d =
+        let q : option_of t.fault ≡ transition_fault ws widths next = sym (ap fault_of d) ∙ x.faults in
         record {
-          collected = collected_goes a.collected h x.ends l d;
-          faults = e ∙ rw (a.faults, x.faults) (sym (among_last ws widths (take i begins) next)) ∙ sym (ap (fault_among ws widths) (take-set begins i next (omega arith)));
-          kept = kept_turn a.kept (omega arith) b r m x;
+          collected = collected_goes a.collected h x.ends l (ap end_of d);
+          faults = earlier f t.fault ∙ rw (a.faults, q) (sym (among_last ws widths (take i begins) next)) ∙ sym (ap (fault_among ws widths) (take-set begins i next (omega arith)));
+          kept = kept_turn a.kept (omega arith) b u m x;
         }
 
-    pub reviewing_stops : {m q : ℕ} (begins' : List ℕ) → t.end ≡ Refused m q → AreReviewed ws widths n at begins' first after t
-    reviewing_stops begins' d = record { same = rw d (collected_stops a.collected h x.ends d); faults = λ k e. let z : Refused _ _ ≡ Next k = sym d ∙ e in next-refused (sym z); kept = λ k e. let z : Refused _ _ ≡ Next k = sym d ∙ e in next-refused (sym z) }
+    pub reviewing_stops : {e : Refusal} (begins' : List ℕ) → r ≡ Err e → AreReviewed ws widths n at begins' first after (Err e)
+    reviewing_stops {e} begins' d = record { same = collected_stops a.collected h x.ends (ap end_of d); faults = λ t z. false_true (cc); kept = λ t z. false_true (cc) }
 
-pub ruleset faults = (rules, bounded_turn, bounded-stop, bounded-end, match_past, match-there, solve_past, solve-there, range-there, plan-unread, plan_unfit, plan_turn, plan-end, base_others, base_past, base_own, reviewing_end, reviewing_stops)
+pub ruleset faults = (rules, match_past, match-there, solve_past, solve-there, range-there, plan-unread, plan_unfit, plan_turn, plan-end, base_others, base_past, base_own, reviewing_end, reviewing_stops)

@@ -1,18 +1,19 @@
 // Plans: the variables that an element binds, and where a plan is at fault.
 ghost use Rattle.std.specs.Prelude.{◌≡◌, false, cond, ◌≤◌, ◌+◌, length};
 ghost use Rattle.std.proofs.Math.Option.{none, some};
-ghost use Rattle.semantics.specs.Plan.{every_below, first_of};
+ghost use Rattle.semantics.specs.Plan.{every_below};
+ghost use Rattle.semantics.specs.Answer.{option_of};
 ghost use Rattle.plans.specs.Fitness.{binds_at, fault_from};
 ghost use Rattle.plans.specs.Fitness.{plan_parts};
-ghost use Rattle.plans.specs.Plan.{fault, IsReviewed, IsBase, AreReviewed};
+ghost use Rattle.plans.specs.Plan.{IsReviewed, IsBase, AreReviewed};
 ghost use Rattle.elements.specs.Bound.{marked, IsBound, sorted};
 
 use elements::bind::{bind_match, bind_variable};
 use elements::element::{Element, Sort, element_of};
 use elements::solve::bind_solve;
-use expression::read::Skipped;
-use kinds::take::{Taken, take};
+use kinds::take::take;
 use net::index::read_parts;
+use semantics::refusal::Refusal;
 
 // Binds the variables that an element of a transition binds, whose input arcs and conjuncts begin at these positions; whether there is one.
 fn newly_bound(
@@ -46,26 +47,17 @@ fn newly_bound(
     }
 }
 
-// Where a plan is at fault.
-#[derive(Clone, Copy)]
-pub enum Fault {
-    At(usize),
-    Nothing,
-}
-
 // A variable that is not bound is a fault at the transition.
-fn unbound(variables: usize, marks: &[bool], at: usize) -> Fault
+fn unbound(variables: usize, marks: &[bool], at: usize) -> Option<usize>
     requires { variables ≤ length marks.now }
-    ensures { fault result ≡ cond (every_below variables (marked marks.now)) none (some at) }
+    ensures { option_of result ≡ cond (every_below variables (marked marks.now)) none (some at) }
 {
-    let mut n = variables;
-    while 0 < n {
-        n -= 1;
+    for n in 0..variables {
         if !marks[n] {
-            return Fault::At(at);
+            return Some(at);
         }
     }
-    Fault::Nothing
+    None
 }
 
 // The fault of a plan whose elements begin at these positions, as do the transition's input arcs and conjuncts; the transition is at `at`.
@@ -77,32 +69,28 @@ fn plan_fault(
     conjuncts: &[usize],
     elements: &[usize],
     at: usize,
-) -> Fault
+) -> Option<usize>
     requires { variables ≤ 8 }
-    ensures { fault result ≡ fault_from words.now widths.now (plan_parts variables inputs.now conjuncts.now) at (λ k. false) elements.now }
+    ensures { option_of result ≡ fault_from words.now widths.now (plan_parts variables inputs.now conjuncts.now) at (λ k. false) elements.now }
 {
     let mut marks = [false; 8];
-    let mut i = 0;
-    while i < elements.len() {
-        let p = elements[i];
-        let head = take(words, p, 10);
-        let Taken::Word(w) = head else {
-            return Fault::At(p);
+    for p in elements {
+        let Ok(w) = take(words, *p, 10) else {
+            return Some(*p);
         };
         let e = element_of(w);
         if !newly_bound(words, widths, variables, inputs, conjuncts, &mut marks, e) {
-            return Fault::At(p);
+            return Some(*p);
         }
-        i += 1;
     }
     unbound(variables, &marks, at)
 }
 
-// What was read of transitions: where they end or why they cannot be read, and the first fault of their plans.
+// What was read of transitions: the position after them, and the first fault of their plans.
 #[derive(Clone, Copy)]
 pub struct Reviewed {
-    pub end: Skipped,
-    pub fault: Fault,
+    pub end: usize,
+    pub fault: Option<usize>,
 }
 
 // The transition at a position, with the fault of its plan; where its parts begin is written to 32 numbers of a table from one on.
@@ -112,40 +100,17 @@ fn read_plan(
     table: &mut [usize],
     base: usize,
     at: usize,
-) -> Reviewed
+) -> Result<Reviewed, Refusal>
     requires { base + 32 ≤ length table.old }
     ensures { IsReviewed words.now widths.now at table.old base result table.new }
 {
-    let t = read_parts(words, widths, table, base, at);
-    let end = t.end;
-    let Skipped::Next(_) = end else {
-        return Reviewed {
-            end: end,
-            fault: Fault::Nothing,
-        };
-    };
+    let (t, end) = read_parts(words, widths, table, base, at)?;
     let own = &table[base..base + 32];
-    let inputs = t.inputs;
-    let conjuncts = t.conjuncts;
-    let elements = t.elements;
-    let ins = &own[..inputs];
-    let guard = &own[16..16 + conjuncts];
-    let plan = &own[24..24 + elements];
+    let ins = &own[..t.inputs];
+    let guard = &own[16..16 + t.conjuncts];
+    let plan = &own[24..24 + t.elements];
     let fault = plan_fault(words, widths, t.variables, ins, guard, plan, at);
-    Reviewed {
-        end: end,
-        fault: fault,
-    }
-}
-
-// The first of two faults.
-fn first_of(a: Fault, b: Fault) -> Fault
-    ensures { fault result ≡ first_of (fault a) (fault b) }
-{
-    match a {
-        Fault::At(p) => Fault::At(p),
-        Fault::Nothing => b,
-    }
+    Ok(Reviewed { end, fault })
 }
 
 // Where in a table the parts of the i-th transition are kept: those from `first` on one after the other, 32 numbers each, as many as there is room for
@@ -173,29 +138,19 @@ pub fn read_plans(
     first: usize,
     table: &mut [usize],
     at: usize,
-) -> Reviewed
+) -> Result<Reviewed, Refusal>
     requires n_in_bounds { n ≤ length begins.old }
     requires in_bounds { 32 ≤ length table.old }
     ensures { AreReviewed words.now widths.now n at begins.new first table.new result }
 {
     let last = table.len() - 32;
-    let mut fault = Fault::Nothing;
-    let mut i = 0;
+    let mut fault = None;
     let mut next = at;
-    while i < n {
+    for i in 0..n {
         begins[i] = next;
-        let t = read_plan(words, widths, table, base_of(i, first, last), next);
-        let end = t.end;
-        let Skipped::Next(p) = end else {
-            return t;
-        };
-        let own = t.fault;
-        fault = first_of(fault, own);
-        next = p;
-        i += 1;
+        let t = read_plan(words, widths, table, base_of(i, first, last), next)?;
+        fault = fault.or(t.fault);
+        next = t.end;
     }
-    Reviewed {
-        end: Skipped::Next(next),
-        fault: fault,
-    }
+    Ok(Reviewed { end: next, fault })
 }

@@ -22,10 +22,9 @@ use Rattle.semantics.specs.Print.{bad_input, offer_text}
 use Rattle.semantics.proofs.Members.{none-some, length_at}
 use Rattle.semantics.proofs.Spans.{refused-read, read_same}
 use Rattle.semantics.proofs.Accepted.{accepted_sound, front-inside}
-use Rattle.expression.specs.declared.read.Skipped.TheVariants.{Next, Refused}
 use Rattle.net.specs.Skim.{Outline}
 use Rattle.accept.specs.Front.{split_into}
-use Rattle.situations.specs.Situation.{Index, IsSituation}
+use Rattle.situations.specs.Situation.{Index, Prepared}
 use Rattle.word.proofs.Copying.{words-length}
 use Rattle.text.specs.Put.{Put}
 use Rattle.text.proofs.Putting.{put-none}
@@ -106,26 +105,26 @@ module _ (ws ms : List ℕ) {i : ℕ} where
     below : (net : Net) (next : ℕ) → accept_net ws ≡ read net next → (t : Transition) × (get_elem? net.transitions i ≡ some t)
     below net next p = let c = (headed ws net next p).counted in length_at net.transitions i (omega arith)
 
-    pub net-refused : {s : Index} {n at : ℕ} {r : Part} {b c : List ℕ} → IsSituation ws i ms s → s.end ≡ Refused n at → IsPart (bad_input n at ∷ []) i b r c → IsNetPart ws ms i b r c
-    net-refused {n = n} {at = at} {r = r} {b = b} {c = c} z e q =
+    pub net-refused : {n at k l : ℕ} {r : Part} {b c : List ℕ} → situation ws i ms ≡ refused n at → k ≡ n → l ≡ at → IsPart (bad_input k l ∷ []) i b r c → IsNetPart ws ms i b r c
+    net-refused {n} {at} {k} {l} {r} {b} {c} z d e q =
         record {
           part = λ net next p.
               let t = below net next p in
-              let m = marking_refused ws ms i net next t.0 p t.1 n at (z.refuses n at e) in
-              subst (λ (x : Reading (List Entry)). IsPart (marking_texts net x) i b r c) (sym m) q;
+              let m = marking_refused ws ms i net next t.0 p t.1 n at z in
+              let told = subst (λ (x : ℕ). IsPart (bad_input n x ∷ []) i b r c) e (subst (λ (x : ℕ). IsPart (bad_input x l ∷ []) i b r c) d q) in
+              subst (λ (x : Reading (List Entry)). IsPart (marking_texts net x) i b r c) (sym m) told;
         }
 
-    pub net_ready : {s : Index} {end : ℕ} → IsSituation ws i ms s → s.end ≡ Next end → Ready ws i ms s.transition.variables
-    net_ready {end = end} z e =
-        let P = z.prepares end e in
+    pub net_ready : {s : Index} → Prepared ws i ms s → Ready ws i ms s.transition.variables
+    net_ready P =
         record { there = record { net = P.net; transition = P.transition; counts = counts_of P.entries }; same = P.same; wide = ap (λ (o : Outline). o.variables) P.outlines }
 
-    pub net-menu : {s : Index} {end written : ℕ} {b c : List ℕ} → IsSituation ws i ms s → s.end ≡ Next end → IsMenuText ws i ms b written c → IsNetPart ws ms i b (record { written = written; more = ltb (i + 1) (get_or ws 0 0 % 256) }) c
-    net-menu {s} {end} {written} {b} {c} z e x = record { part = by }
+    pub net-menu : {s : Index} {written : ℕ} {b c : List ℕ} → Prepared ws i ms s → IsMenuText ws i ms b written c → IsNetPart ws ms i b (record { written = written; more = ltb (i + 1) (get_or ws 0 0 % 256) }) c
+    net-menu {s} {written} {b} {c} z x = record { part = by }
       where
         by : (net : Net) (next : ℕ) → accept_net ws ≡ read net next → IsPart (marking_texts net (read_marking net ms)) i b (record { written = written; more = ltb (i + 1) (get_or ws 0 0 % 256) }) c
         by net next p =
-            let R = net_ready z e in
+            let R = net_ready z in
             let t = below net next p in
             let M = marking_read_lem ws ms i net next t.0 p t.1 R.there R.same in
             let l = menus_length net (counts_of M.entries) 0 net.transitions in

@@ -7,13 +7,13 @@ ghost use Rattle.printed.specs.Texts.{net_texts, part_text, parts};
 ghost use Rattle.printed.specs.Part.{IsPart, Accepts, IsNetPart};
 
 use accept::split::split;
-use expression::read::Skipped;
 use offers::menu::put_menu;
 use situations::situation::prepare;
 use text_lines::line::put_bad_input;
 use word::bytes::words_of_bytes;
 
 // How many bytes of the buffer a part takes, and whether another part follows.
+// No Option, since both are told of every part.
 #[derive(Clone, Copy)]
 pub struct Part {
     pub written: usize,
@@ -25,9 +25,8 @@ fn refusal_part(out: &mut [u8], i: usize, number: usize, position: usize) -> Par
     ensures { IsPart (bad_input number position ∷ []) i out.old result out.new }
 {
     if i == 0 {
-        let end = put_bad_input(out, 0, number, position);
         return Part {
-            written: end,
+            written: put_bad_input(out, 0, number, position),
             more: false,
         };
     }
@@ -52,7 +51,7 @@ fn net_part(out: &mut [u8], i: usize, net: &[u32], marking: &[u32]) -> Part
     let mut places_at = [0usize; 64];
     let mut own = [0usize; 64];
     let mut begins = [0usize; 65];
-    let s = prepare(
+    let prepared = prepare(
         net,
         i as u32,
         marking,
@@ -60,17 +59,12 @@ fn net_part(out: &mut [u8], i: usize, net: &[u32], marking: &[u32]) -> Part
         &mut own,
         &mut begins,
     );
-    let end = s.end;
-    match end {
-        Skipped::Refused(n, p) => refusal_part(out, i, n as usize, p),
-        Skipped::Next(_) => {
-            let t = s.transition;
-            let written = put_menu(out, net, i as u32, marking, t.variables);
-            Part {
-                written: written,
-                more: i + 1 < transitions,
-            }
-        }
+    match prepared {
+        Err(refusal) => refusal_part(out, i, refusal.number() as usize, refusal.position()),
+        Ok(s) => Part {
+            written: put_menu(out, net, i as u32, marking, s.transition.variables),
+            more: i + 1 < transitions,
+        },
     }
 }
 

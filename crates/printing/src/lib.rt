@@ -21,6 +21,7 @@ fn write_part(bytes: &[u8], i: usize) -> bool
 // Writes the printed menu for bytes.
 pub fn write_printed(bytes: &[u8]) {
     let mut i = 0;
+    // Whether another part follows is told with the part, so that the number of turns is not known beforehand.
     while write_part(bytes, i) {
         i += 1;
     }

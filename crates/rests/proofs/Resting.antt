@@ -1,15 +1,13 @@
--- The rules of the table of arcs to look up: the nine numbers of a transition are those that were left, and writing nine more keeps those before them.
-use mathlib.Core.Path.{◌≡◌, sym, ap, ◌∙◌, subst}
+-- The rules of the table of arcs to look up: writing nine more numbers keeps those before them.
+use mathlib.Core.Path.{◌≡◌, sym, ap, ◌∙◌}
 use mathlib.Core.Logic.{◌⊎◌, inl, inr}
 use mathlib.Core.List.{List, ◌++◌}
-use Prim.Native.Nat.{ℕ, ◌+◌, ◌*◌, ◌-◌, ◌/◌, ◌%◌, ◌≤◌, ◌<◌}
+use Prim.Native.Nat.{ℕ, ◌+◌, ◌*◌, ◌-◌, ◌≤◌, ◌<◌}
 use native.Mathlib.Nat.{eq-or-lt_of_le}
 use native.Mathlib.Omega.{arith}
-use lib.ListN.{length, get_or, take, drop, set, length-set, length-append, length-take, length-drop, take-append-drop}
-use lib.Seq.{length-take-le, take-append-le, drop-append-le, take_at, drop_at, take-set-le, get_or-set_same}
+use lib.ListN.{length, get_or, take, drop, length-append, length-take, length-drop, take-append-drop}
+use lib.Seq.{length-take-le, take-append-le, drop-append-le, take_at, drop_at}
 use Rattle.semantics.specs.Net.{Net}
-use Rattle.net.specs.Parted.{inputs_in, plan_in}
-use Rattle.spares.specs.Spare.{Within, Unspared, IsRest}
 use Rattle.starts.specs.Known.{NetKnown}
 use Rattle.rests.specs.Rests.{Restable, Rest, RestsKept}
 use Rattle.rests.proofs.Chosen.{known-number, few, restable}
@@ -17,35 +15,6 @@ use Rattle.rests.proofs.Chosen.{known-number, few, restable}
 -- a part from a number to as many more
 pub part-is : (from n : ℕ) (l : List ℕ) → take (from + n - from) (drop from l) ≡ take n (drop from l)
 part-is from n l = let d : from + n - from ≡ n = omega arith in ap (λ (k : ℕ). take k (drop from l)) d
-
--- ── One transition ──
-
-module _ {ws ps : List ℕ} {head : ℕ} {own : List ℕ} (R : Restable ws ps head own) where
-  pub rest-within : Within ws ps (inputs_in head own) (take (24 + head / 65536 % 16 - 24) (drop 24 own))
-  rest-within = rw (part-is 24 (head / 65536 % 16) own) R.within
-
-  pub rest-few : length (inputs_in head own) ≤ 8
-  rest-few = let l = length-take (head / 16 % 16) own in let f = R.few.inputs in omega arith
-
-  pub rest-made : (row : List ℕ) {left : List ℕ} {n : ℕ} → length row ≡ 9 → IsRest ws ps (inputs_in head own) (take (24 + head / 65536 % 16 - 24) (drop 24 own)) left n → Rest ws ps head own (set (left ++ drop 8 row) 8 n)
-  rest-made row {left} {n} l I = record { long = length-set (left ++ drop 8 row) 8 n ∙ wide; few = rw last few; unspared = subst (Unspared ws ps (inputs_in head own) (plan_in head own)) (sym front) (rw (part-is 24 (head / 65536 % 16) own) at I.unspared) }
-    where
-      few : n ≤ 8
-      few = let f = I.few in let g = rest-few in omega arith
-
-      wide : length (left ++ drop 8 row) ≡ 9
-      wide = let a = length-append left (drop 8 row) in let d = length-drop 8 row in let f = I.full in omega arith
-
-      last : get_or (set (left ++ drop 8 row) 8 n) 8 0 ≡ n
-      last = get_or-set_same (left ++ drop 8 row) 8 n 0 (let w = wide in omega arith)
-
-      front : take (get_or (set (left ++ drop 8 row) 8 n) 8 0) (set (left ++ drop 8 row) 8 n) ≡ take n left
-      front =
-          ap (λ (k : ℕ). take k (set (left ++ drop 8 row) 8 n)) last
-          ∙ take-set-le n (left ++ drop 8 row) 8 n few
-          ∙ take-append-le n left (drop 8 row) (let f = I.full in let g = few in omega arith)
-
--- ── All transitions ──
 
 -- a part of the front
 in_front : (a n : ℕ) (p r : List ℕ) → a + n ≤ length p → take n (drop a (p ++ r)) ≡ take n (drop a p)
@@ -60,9 +29,6 @@ stays a n m l r h i =
     ∙ ap (λ (x : List ℕ). take n (drop a x)) (take-append-drop m l)
 
 module _ {ws ps transitions parts : List ℕ} where
-  pub rests_none : {table : List ℕ} → length table ≡ 576 → RestsKept ws ps transitions parts 0 table
-  rests_none l = record { long = l; each = λ t h. absurd (omega arith) }
-
   -- what the next nine numbers are made out from, and where they are written
   pub rests_next : {net : Net} {n : ℕ} {table : List ℕ} → NetKnown ws ps transitions parts net → n < length transitions → RestsKept ws ps transitions parts n table → Restable ws ps (get_or ws (get_or transitions n 0) 0) (take (n * 32 + 32 - n * 32) (drop (n * 32) parts)) × (length (take (n * 9 + 9 - n * 9) (drop (n * 9) table)) ≡ 9)
   rests_next {n = n} {table = table} N h K =
@@ -72,9 +38,6 @@ module _ {ws ps transitions parts : List ℕ} where
       let d = length-drop (n * 9) table in
       let t = length-take (n * 9 + 9 - n * 9) (drop (n * 9) table) in
       (rw (part-is (n * 32) 32 parts) (restable N k), omega arith)
-
-  pub rests_all : {n k : ℕ} {table : List ℕ} → RestsKept ws ps transitions parts n table → k ≤ n → RestsKept ws ps transitions parts k table
-  rests_all K h = record { long = K.long; each = λ t l. K.each t (omega arith) }
 
   module _ {n : ℕ} {table row : List ℕ} (K : RestsKept ws ps transitions parts n table) (small : n < 64) (R : Rest ws ps (get_or ws (get_or transitions n 0) 0) (take (n * 32 + 32 - n * 32) (drop (n * 32) parts)) row) where
     abbrev after : List ℕ

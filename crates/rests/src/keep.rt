@@ -36,8 +36,7 @@ pub fn keep_rests(
     requires rests_len { length rests.old ≡ 576 }
     ensures { RestsKept net.now places.now transitions.now parts.now (length transitions.now) rests.new }
 {
-    let mut t = 0;
-    while t < transitions.len() {
+    for t in 0..transitions.len() {
         let from = t * 32;
         let at = t * 9;
         keep_rest(
@@ -47,6 +46,5 @@ pub fn keep_rests(
             &parts[from..from + 32],
             &mut rests[at..at + 9],
         );
-        t += 1;
     }
 }

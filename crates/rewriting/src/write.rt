@@ -4,8 +4,10 @@ ghost use Rattle.semantics.specs.Marking.{entry_words};
 ghost use Rattle.net.specs.Places.{PlacesFit};
 ghost use Rattle.arcs.specs.Keys.{key_place, key_colour};
 ghost use Rattle.patch.specs.Patch.{written};
+ghost use Rattle.changes.specs.Tables.{keys_told, ats_told, olds_told, counts_told};
 ghost use Rattle.rewriting.specs.Writes.{Writable, IsWritten};
 
+use changes::change::Row;
 use occurrence::cover::width_of;
 use patch::entry::write_entry;
 use patch::words::copy_words;
@@ -34,26 +36,21 @@ pub fn write_listed(
     net: &[u32],
     places: &[usize],
     marking: &[u32],
-    keys: &[u64; 16],
-    ats: &[usize; 16],
-    olds: &[usize; 16],
-    counts: &[u32; 16],
+    rows: &[Row; 16],
     n: usize,
     next: &mut [u32],
 ) -> usize
-    requires { Writable net.now places.now marking.now keys.now ats.now olds.now counts.now n next.old }
-    ensures { IsWritten net.now places.now marking.now keys.now ats.now olds.now counts.now n next.old result next.new }
+    requires { Writable net.now places.now marking.now (keys_told rows.now) (ats_told rows.now) (olds_told rows.now) (counts_told rows.now) n next.old }
+    ensures { IsWritten net.now places.now marking.now (keys_told rows.now) (ats_told rows.now) (olds_told rows.now) (counts_told rows.now) n next.old result next.new }
 {
     let end = marking.len();
     let mut from = 0;
     let mut at = 0;
-    let mut i = 0;
-    while i < n {
-        let to = ats[i];
-        copy_words(marking, from, to, next, at);
-        at = write_key(net, places, keys[i], counts[i], next, at + (to - from));
-        from = to + olds[i];
-        i += 1;
+    for i in 0..n {
+        let row = rows[i];
+        copy_words(marking, from, row.at, next, at);
+        at = write_key(net, places, row.key, row.count, next, at + (row.at - from));
+        from = row.at + row.old;
     }
     copy_words(marking, from, end, next, at);
     at + (end - from)

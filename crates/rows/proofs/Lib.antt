@@ -1,5 +1,4 @@
 pub mod Alike
-pub mod Shift
 pub mod Ranks
 pub mod Rows
 pub mod Places

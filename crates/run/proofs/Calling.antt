@@ -5,20 +5,22 @@ use Prim.Native.Nat.{ℕ, ◌-◌, min, ◌≤◌}
 use native.Mathlib.Omega.{arith}
 use lib.ListN.{length, take, drop, replicate, length-drop}
 use lib.Seq.{take_all, drop-length}
+use Rattle.std.specs.Prelude.{Some}
+use Rattle.semantics.specs.declared.refusal.Refusal.{Refusal}
+use Rattle.semantics.specs.Answer.{refusing}
 use Rattle.semantics.specs.Reading.{Reading, read}
 use Rattle.semantics.specs.Expression.{house_table}
 use Rattle.semantics.specs.Net.{Net}
 use Rattle.semantics.specs.Plan.{accept_net}
 use Rattle.semantics.specs.Marking.{Entry, counts_of}
 use Rattle.semantics.specs.Run.{End, plain_run}
-use Rattle.semantics.specs.Calls.{limits, ran_to, ran_from, run_call}
-use Rattle.expression.specs.declared.read.Skipped.TheVariants.{Next, Refused}
+use Rattle.semantics.specs.Calls.{start, limits, ran_to, ran_from, run_call}
 use Rattle.net.specs.declared.index.NetIndex.{NetIndex}
 use Rattle.marking.specs.Marked.{marking_read}
 use Rattle.search.specs.Scene.{net_of, counts_in}
 use Rattle.run.specs.declared.run.Ended.{Ended}
 use Rattle.starts.specs.Known.{NetKnown}
-use Rattle.starts.specs.Start.{Started, IsStart}
+use Rattle.starts.specs.Start.{Started}
 use Rattle.run.specs.Run.{Runnable, HasRun, HasRunFrom, run_end}
 use Rattle.run.proofs.Running.{picks_known}
 
@@ -32,18 +34,15 @@ tail_cleared a xs ys e =
     rw (none, ys') (ap (λ (k : List ℕ). take a xs ++ k) (append-nil (replicate (length xs - a) 0)))
 
 -- a buffer that begins with the marking at a run's end, cleared behind it, and the other buffers cleared
-settled : (net : Net) (buffer spare menu : List ℕ) (e : End) (r : Ended) (after : List ℕ) → HasRun net e r after → length after ≡ length buffer → run_end (record { done = r.done; refusal = r.refusal; position = 0; length = r.length }) (take r.length after ++ replicate (length after - r.length) 0) (replicate (length spare) 0) (replicate (length menu) 0) ≡ ran_to net buffer spare menu e
-settled net buffer spare menu e r after h l = rw (h.words, l, h.done, h.refusal, h.size)
+settled : (net : Net) (buffer spare menu : List ℕ) (e : End) (r : Ended) (after : List ℕ) → HasRun net e r after → length after ≡ length buffer → run_end (record { done = r.done; stopped = r.stopped; length = r.length }) (take r.length after ++ replicate (length after - r.length) 0) (replicate (length spare) 0) (replicate (length menu) 0) ≡ ran_to net buffer spare menu e
+settled net buffer spare menu e r after h l = rw (h.words, l, h.done, h.stopped, h.size)
 
-module _ (ws : List ℕ) (budget : ℕ) (buffer : List ℕ) (m : ℕ) (spare menu picks : List ℕ) {i : NetIndex} {parts : List ℕ} (b : IsStart ws buffer m picks i parts) where
-  pub run_unstarted : {n p : ℕ} → i.end ≡ Refused n p → run_end (record { done = 0; refusal = n; position = p; length = 0 }) buffer spare menu ≡ run_call ws budget buffer m spare menu picks
+module _ (ws : List ℕ) (budget : ℕ) (buffer : List ℕ) (m : ℕ) (spare menu picks : List ℕ) where
+  pub run_unstarted : (e : Refusal) → start ws buffer m picks ≡ refusing e → run_end (record { done = 0; stopped = Some e; length = 0 }) buffer spare menu ≡ run_call ws budget buffer m spare menu picks
   unfolding run_call
-  run_unstarted {n} {p} e = rw (b.refuses n p e)
+  run_unstarted e b = rw b
 
-  module _ {next : ℕ} (e : i.end ≡ Next next) where
-    S : Started ws buffer m picks i parts
-    S = b.begins next e
-
+  module _ {i : NetIndex} {parts : List ℕ} (S : Started ws buffer m picks i parts) where
     net-is : S.net ≡ net_of (accept_net ws)
     net-is = sym (ap net_of S.known.accepted)
 
@@ -74,6 +73,6 @@ module _ (ws : List ℕ) (budget : ℕ) (buffer : List ℕ) (m : ℕ) (spare men
       run_inside = h.inside
 
       module _ (l : length after ≡ length buffer) {tail spare' menu' : List ℕ} {x y : ℕ} where
-        pub run_ended : tail ≡ replicate (length (take (length after - r.length) (drop r.length after))) 0 → x ≡ length spare → spare' ≡ replicate x 0 → y ≡ length menu → menu' ≡ replicate y 0 → run_end (record { done = r.done; refusal = r.refusal; position = 0; length = r.length }) (take r.length after ++ (tail ++ drop (length after - r.length) (drop r.length after))) spare' menu' ≡ run_call ws budget buffer m spare menu picks
+        pub run_ended : tail ≡ replicate (length (take (length after - r.length) (drop r.length after))) 0 → x ≡ length spare → spare' ≡ replicate x 0 → y ≡ length menu → menu' ≡ replicate y 0 → run_end (record { done = r.done; stopped = r.stopped; length = r.length }) (take r.length after ++ (tail ++ drop (length after - r.length) (drop r.length after))) spare' menu' ≡ run_call ws budget buffer m spare menu picks
         run_ended t i s j u =
             rw (tail_cleared r.length after tail t, s ∙ ap (λ (k : ℕ). replicate k 0) i, u ∙ ap (λ (k : ℕ). replicate k 0) j) (settled (net_of (accept_net ws)) buffer spare menu _ r after h l ∙ sym called)

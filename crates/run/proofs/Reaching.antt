@@ -9,6 +9,7 @@ use Prim.Native.Nat.{ℕ, ◌-◌}
 use native.Mathlib.Omega.{arith}
 use lib.ListN.{length, replicate}
 use Rattle.semantics.specs.declared.Outcome.{Outcome}
+use Rattle.semantics.specs.Answer.{Outcome as Told, outcome_of}
 use Rattle.semantics.specs.Refusal.{no_transition, bad_pick}
 use Rattle.semantics.specs.Reading.{read, refused}
 use Rattle.semantics.specs.Expression.{house_table}
@@ -28,17 +29,17 @@ module _ (nw : List ℕ) (net : Net) (next : ℕ) (is-net : accept_net nw ≡ re
     (contract : (picks : List ℕ) → run_end (answer picks) (buffer-after picks) (spare-after picks) (menu-after picks) ≡ run_call nw budget buffer m spare menu picks) where
   -- what a caller sees: every pick is done, nothing is refused, and the buffer begins with the marking `last`
   pub record Arrives (picks : List ℕ) : Type 0 where
-    pub answered : answer picks ≡ record { done = length picks; refusal = 0; position = 0; length = length last }
+    pub answered : outcome_of (answer picks) ≡ record { done = length picks; refusal = 0; position = 0; length = length last }
     pub words : buffer-after picks ≡ last ++ replicate (length buffer - length last) 0
 
   -- where no refusal is told, the picks were accepted
-  unrefused : (picks : List ℕ) → (answer picks).refusal ≡ 0 → start nw buffer m picks ≡ read (record { net = net; counts = counts_of es }) 0
+  unrefused : (picks : List ℕ) → (outcome_of (answer picks)).refusal ≡ 0 → start nw buffer m picks ≡ read (record { net = net; counts = counts_of es }) 0
   unfolding start run_call
   unrefused picks z = by (first_unknown (length net.transitions) picks) (first_malformed picks) refl refl
     where
       told : (n p : ℕ) → start nw buffer m picks ≡ refused n p → n ≡ 0
       told n p e =
-          let a : (answer picks).refusal ≡ n = ap (λ (x : RunEnd). x.answer.refusal) (contract picks ∙ ap (ran_from budget buffer spare menu picks) e) in
+          let a : (outcome_of (answer picks)).refusal ≡ n = ap (λ (x : RunEnd). x.answer.refusal) (contract picks ∙ ap (ran_from budget buffer spare menu picks) e) in
           sym a ∙ z
 
       by : (p q : Option ℕ) → first_unknown (length net.transitions) picks ≡ p → first_malformed picks ≡ q → start nw buffer m picks ≡ read (record { net = net; counts = counts_of es }) 0
@@ -49,7 +50,7 @@ module _ (nw : List ℕ) (net : Net) (next : ℕ) (is-net : accept_net nw ≡ re
   arrives_ends : (picks : List ℕ) → Arrives picks → Ends nw budget buffer m spare menu picks last
   unfolding run_call
   arrives_ends picks a =
-      let s = unrefused picks (ap (λ (r : Outcome). r.refusal) a.answered) in
+      let s = unrefused picks (ap (λ (r : Told). r.refusal) a.answered) in
       let c = contract picks ∙ ap (ran_from budget buffer spare menu picks) s in
       let sp = ap (λ (x : RunEnd). x.spare) c in
       let me = ap (λ (x : RunEnd). x.menu) c in

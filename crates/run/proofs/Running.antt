@@ -11,6 +11,9 @@ use borrow.Author.Tests.{leb-false}
 use lib.Dec.{leb}
 use lib.ListN.{length, get_or, take, drop}
 use lib.Seq.{length-take-le, take_all, take-suc, split_at}
+use Rattle.std.specs.Prelude.{None, Some, Ok, Err}
+use Rattle.semantics.specs.declared.refusal.Refusal.{Refusal}
+use Rattle.semantics.specs.Answer.{Refusal as Stop, Written, FireRefused, number_of, position_of}
 use Rattle.semantics.specs.Lists.{Every}
 use Rattle.semantics.specs.Reading.{Reading, read}
 use Rattle.semantics.specs.Expression.{house_table}
@@ -24,14 +27,13 @@ use Rattle.semantics.proofs.Tests.{false_true, either}
 use Rattle.semantics.proofs.Members.{none-some, every-number}
 use Rattle.semantics.proofs.Accepted.{SoundNet, accepted_sound}
 use Rattle.semantics.proofs.Markings.{marking-words, marking_proper}
-use Rattle.semantics.proofs.Run.{Numbered, pick-numbered, further, run_append, run_refused, run_fired}
+use Rattle.semantics.proofs.Run.{further, run_append, run_refused, run_fired}
 use Rattle.semantics.proofs.Reach.{Marks, pick-marks}
 use Rattle.net.specs.Places.{places_at}
 use Rattle.marking.specs.Marked.{marking_read, Begins, BeginsFor}
 use Rattle.beginnings.specs.Indexed.{Accepted, Indexed}
 use Rattle.steps.specs.Steps.{BeginsThen}
 use Rattle.search.specs.Scene.{net_of, counts_in}
-use Rattle.picks.specs.declared.pick.Picked.{Picked}
 use Rattle.rests.specs.Rests.{RestsKept}
 use Rattle.picks.specs.Pick.{Leaves, Pickable, IsPicked}
 use Rattle.run.specs.Run.{Runnable, HasRun}
@@ -63,14 +65,27 @@ picks_known n (w ∷ picks) i j e f =
 
 -- ── What a pick left ──
 
--- refused, or fired
-pub data Went (net : Net) (buffer : List ℕ) (size : ℕ) (r : Picked) (after : List ℕ) (x : Firing) : Type 0 where
-  halted : (n : ℕ) → x ≡ stopped n → r.refusal ≡ n → 1 ≤ n → take size after ≡ take size buffer → Went net buffer size r after x
-  fired : (m : Counts) → x ≡ moved m → r.refusal ≡ 0 → r.length ≡ length (marking_words net m) → take r.length after ≡ marking_words net m → Went net buffer size r after x
+pub record Halted (buffer : List ℕ) (size : ℕ) (e : Refusal) (after : List ℕ) (x : Firing) : Type 0 where
+  pub is : x ≡ stopped (number_of e)
+  pub nowhere : position_of e ≡ 0
+  pub front : take size after ≡ take size buffer
 
-went : (net : Net) (buffer : List ℕ) (size : ℕ) (r : Picked) (after : List ℕ) (x : Firing) → Numbered x → Leaves net buffer size r after x → Went net buffer size r after x
-went net buffer size r after (moved m) n l = fired m refl l.0 l.1 l.2
-went net buffer size r after (stopped k) n l = halted k refl l.0 n l.1
+halts : (net : Net) (buffer : List ℕ) (size : ℕ) (e : Refusal) (after : List ℕ) (x : Firing) → Leaves net buffer size (Err e) after x → Halted buffer size e after x
+halts net buffer size e after (moved m) l = let a : FireRefused (number_of e) (position_of e) ≡ Written (length (marking_words net m)) = l.0 in cc
+halts net buffer size e after (stopped n) l = let a : FireRefused (number_of e) (position_of e) ≡ FireRefused n 0 = l.0 in record { is = cc; nowhere = cc; front = l.1 }
+
+pub record Fires (net : Net) (next : ℕ) (after : List ℕ) (x : Firing) : Type 0 where
+  pub counts : Counts
+  pub is : x ≡ moved counts
+  pub size : next ≡ length (marking_words net counts)
+  pub front : take next after ≡ marking_words net counts
+
+fires : (net : Net) (buffer : List ℕ) (size next : ℕ) (after : List ℕ) (x : Firing) → Leaves net buffer size (Ok next) after x → Fires net next after x
+fires net buffer size next after (moved m) l =
+    let a : Written next ≡ Written (length (marking_words net m)) = l.0 in
+    let n : next ≡ length (marking_words net m) = cc in
+    record { counts = m; is = refl; size = n; front = rw n l.1 }
+fires net buffer size next after (stopped n) l = let a : Written next ≡ FireRefused n 0 = l.0 in cc
 
 -- ── The run so far ──
 
@@ -133,10 +148,10 @@ module _ {ws ps transitions parts : List ℕ} {budget : ℕ} {buffer₀ : List �
     onward : (rest : List ℕ) → picks ≡ take done picks ++ rest → plain_run house_table (net ws) (limits budget buffer₀ spare₀ menu₀) (first ws buffer₀ m) 0 picks ≡ plain_run house_table (net ws) (limits budget buffer₀ spare₀ menu₀) (counts_of S.entries) done rest
     onward rest e = ap (plain_run house_table (net ws) (limits budget buffer₀ spare₀ menu₀) (first ws buffer₀ m) 0) e ∙ run_append house_table (net ws) (limits budget buffer₀ spare₀ menu₀) (take done picks) rest (first ws buffer₀ m) 0 ∙ ap (λ (x : End). further house_table (net ws) (limits budget buffer₀ spare₀ menu₀) x rest) S.ran
 
-    pub sofar_ended : length picks ≤ done → HasRun (net ws) (plain_run house_table (net ws) (limits budget buffer₀ spare₀ menu₀) (first ws buffer₀ m) 0 picks) (record { done = done; refusal = 0; length = size }) buffer
+    pub sofar_ended : length picks ≤ done → HasRun (net ws) (plain_run house_table (net ws) (limits budget buffer₀ spare₀ menu₀) (first ws buffer₀ m) 0 picks) (record { done = done; stopped = None; length = size }) buffer
     sofar_ended h =
         let e : plain_run house_table (net ws) (limits budget buffer₀ spare₀ menu₀) (first ws buffer₀ m) 0 picks ≡ record { counts = counts_of S.entries; done = done; refusal = 0 } = ap (plain_run house_table (net ws) (limits budget buffer₀ spare₀ menu₀) (first ws buffer₀ m) 0) (sym (take_all done picks h)) ∙ S.ran in
-        rw e (record { done = refl; refusal = refl; size = sized; inside = S.inside; words = words })
+        rw e (record { done = refl; stopped = refl; size = sized; inside = S.inside; words = words })
 
     module _ (h : done < length picks) where
       pub sofar_pickable : {rests : List ℕ} → RestsKept ws ps transitions parts (length transitions) rests → Pickable ws ps transitions parts rests begins buffer size (get_or picks done 0)
@@ -145,60 +160,58 @@ module _ {ws ps transitions parts : List ℕ} {budget : ℕ} {buffer₀ : List �
       same-limits : limits budget buffer spare menu ≡ (limits budget buffer₀ spare₀ menu₀)
       same-limits = rw (S.buffer-kept, S.spare-kept, S.menu-kept)
 
-      module _ {r : Picked} {after begins' : List ℕ} (P : IsPicked ws budget begins buffer size spare menu (get_or picks done 0) r after begins') where
-        pick_same : pick house_table (net ws) (limits budget buffer spare menu) (counts_in (marking_read (net ws).places (take size buffer))) (get_or picks done 0) ≡ pick house_table (net ws) (limits budget buffer₀ spare₀ menu₀) (counts_of S.entries) (get_or picks done 0)
-        pick_same = ap (λ (x : Reading (List Entry)). pick house_table (net ws) (limits budget buffer spare menu) (counts_in x) (get_or picks done 0)) S.marked ∙ ap (λ (x : Limits). pick house_table (net ws) x (counts_of S.entries) (get_or picks done 0)) same-limits
+      pick_same : pick house_table (net ws) (limits budget buffer spare menu) (counts_in (marking_read (net ws).places (take size buffer))) (get_or picks done 0) ≡ pick house_table (net ws) (limits budget buffer₀ spare₀ menu₀) (counts_of S.entries) (get_or picks done 0)
+      pick_same = ap (λ (x : Reading (List Entry)). pick house_table (net ws) (limits budget buffer spare menu) (counts_in x) (get_or picks done 0)) S.marked ∙ ap (λ (x : Limits). pick house_table (net ws) x (counts_of S.entries) (get_or picks done 0)) same-limits
 
-        picked : Went (net ws) buffer size r after (pick house_table (net ws) (limits budget buffer₀ spare₀ menu₀) (counts_of S.entries) (get_or picks done 0))
-        picked = went (net ws) buffer size r after _ (pick-numbered house_table (net ws) (limits budget buffer₀ spare₀ menu₀) (counts_of S.entries) (get_or picks done 0)) (subst (Leaves (net ws) buffer size r after) pick_same P.picked)
+      goes_on : plain_run house_table (net ws) (limits budget buffer₀ spare₀ menu₀) (first ws buffer₀ m) 0 picks ≡ plain_run house_table (net ws) (limits budget buffer₀ spare₀ menu₀) (counts_of S.entries) done (get_or picks done 0 ∷ drop (suc done) picks)
+      goes_on = onward (get_or picks done 0 ∷ drop (suc done) picks) (split_at picks done 0 h)
 
-        goes_on : plain_run house_table (net ws) (limits budget buffer₀ spare₀ menu₀) (first ws buffer₀ m) 0 picks ≡ plain_run house_table (net ws) (limits budget buffer₀ spare₀ menu₀) (counts_of S.entries) done (get_or picks done 0 ∷ drop (suc done) picks)
-        goes_on = onward (get_or picks done 0 ∷ drop (suc done) picks) (split_at picks done 0 h)
+      pub sofar_refused : {e : Refusal} {after begins' : List ℕ} → IsPicked ws budget begins buffer size spare menu (get_or picks done 0) (Err e) after begins' → length after ≡ length buffer → HasRun (net ws) (plain_run house_table (net ws) (limits budget buffer₀ spare₀ menu₀) (first ws buffer₀ m) 0 picks) (record { done = done; stopped = Some e; length = size }) after
+      sofar_refused {e} {after} P l =
+          let p = halts (net ws) buffer size e after _ (subst (Leaves (net ws) buffer size (Err e) after) pick_same P.picked) in
+          let x = goes_on ∙ run_refused house_table (net ws) (limits budget buffer₀ spare₀ menu₀) (counts_of S.entries) done (get_or picks done 0) (number_of e) (drop (suc done) picks) p.is in
+          rw x (record { done = refl; stopped = ap (λ (k : ℕ). stop (number_of e) k) p.nowhere; size = sized; inside = omega (arith, S.inside, l); words = p.front ∙ words })
+        where
+          stop : ℕ → ℕ → Stop
+          stop n k = record { number = n; position = k }
 
-        pub sofar_refused : ¬ (r.refusal ≡ 0) → length after ≡ length buffer → HasRun (net ws) (plain_run house_table (net ws) (limits budget buffer₀ spare₀ menu₀) (first ws buffer₀ m) 0 picks) (record { done = done; refusal = r.refusal; length = size }) after
-        sofar_refused q l = by picked
-          where
-            by : Went (net ws) buffer size r after (pick house_table (net ws) (limits budget buffer₀ spare₀ menu₀) (counts_of S.entries) (get_or picks done 0)) → HasRun (net ws) (plain_run house_table (net ws) (limits budget buffer₀ spare₀ menu₀) (first ws buffer₀ m) 0 picks) (record { done = done; refusal = r.refusal; length = size }) after
-            by (fired m' e z k t) = absurd (q z)
-            by (halted n e z k t) =
-                let x = goes_on ∙ run_refused house_table (net ws) (limits budget buffer₀ spare₀ menu₀) (counts_of S.entries) done (get_or picks done 0) n (drop (suc done) picks) e in
-                rw x (record { done = refl; refusal = z; size = sized; inside = omega (arith, S.inside, l); words = t ∙ words })
+      module _ {next : ℕ} {after begins' : List ℕ} (P : IsPicked ws budget begins buffer size spare menu (get_or picks done 0) (Ok next) after begins') where
+        F : Fires (net ws) next after (pick house_table (net ws) (limits budget buffer₀ spare₀ menu₀) (counts_of S.entries) (get_or picks done 0))
+        F = fires (net ws) buffer size next after _ (subst (Leaves (net ws) buffer size (Ok next) after) pick_same P.picked)
 
-        pub sofar_fired : {spare' menu' : List ℕ} → r.refusal ≡ 0 → length after ≡ length buffer → length spare' ≡ length spare → length menu' ≡ length menu → length begins' ≡ length begins → Sofar ws budget buffer₀ m spare₀ menu₀ picks begins' after spare' menu' (done + 1) r.length
-        unfolding read_marking marking_read plain_run
-        sofar_fired {spare'} {menu'} q l s n f = by picked
-          where
-            by : Went (net ws) buffer size r after (pick house_table (net ws) (limits budget buffer₀ spare₀ menu₀) (counts_of S.entries) (get_or picks done 0)) → Sofar ws budget buffer₀ m spare₀ menu₀ picks begins' after spare' menu' (done + 1) r.length
-            by (halted k e z p t) = absurd (omega arith)
-            by (fired m' e z k t) = record {
-              many = omega arith;
-              buffer-kept = l ∙ S.buffer-kept;
-              spare-kept = s ∙ S.spare-kept;
-              menu-kept = n ∙ S.menu-kept;
-              inside = omega (arith, k, l, M.roomy, S.buffer-kept);
-              entries = M.entries;
-              end = length (marking_words (net ws) m');
-              marked = marked;
-              full = f ∙ S.full;
-              begun = begun-then.of M.entries (length (marking_words (net ws) m')) M.marked M.counted;
-              ran = ran;
-            }
-              where
-                M : Marks house_table (net ws) (limits budget buffer₀ spare₀ menu₀) (sound R) m'
-                M = pick-marks house_table (net ws) (limits budget buffer₀ spare₀ menu₀) (sound R) (counts_of S.entries) m' (get_or picks done 0) (marking_proper (net ws) (take size buffer) S.entries S.end reads) e
+        M : Marks house_table (net ws) (limits budget buffer₀ spare₀ menu₀) (sound R) F.counts
+        M = pick-marks house_table (net ws) (limits budget buffer₀ spare₀ menu₀) (sound R) (counts_of S.entries) F.counts (get_or picks done 0) (marking_proper (net ws) (take size buffer) S.entries S.end reads) F.is
 
-                marked : marking_read (net ws).places (take r.length after) ≡ read M.entries (length (marking_words (net ws) m'))
-                marked = ap (marking_read (net ws).places) t ∙ M.marked
+        marked : marking_read (net ws).places (take next after) ≡ read M.entries (length (marking_words (net ws) F.counts))
+        unfolding read_marking marking_read
+        marked = ap (marking_read (net ws).places) F.front ∙ M.marked
 
-                begun-then : BeginsFor (net ws) m' begins'
-                begun-then = subst (BeginsThen (net ws) begins begins') (pick_same ∙ e) P.begun
+        begun-then : BeginsFor (net ws) F.counts begins'
+        begun-then = subst (BeginsThen (net ws) begins begins') (pick_same ∙ F.is) P.begun
 
-                one : plain_run house_table (net ws) (limits budget buffer₀ spare₀ menu₀) (counts_of S.entries) done (get_or picks done 0 ∷ []) ≡ record { counts = counts_of M.entries; done = done + 1; refusal = 0 }
-                one = run_fired house_table (net ws) (limits budget buffer₀ spare₀ menu₀) (counts_of S.entries) m' done (get_or picks done 0) [] e ∙ ap (λ (x : Counts). record { counts = x; done = done + 1; refusal = 0 }) (sym M.counted)
+        one : plain_run house_table (net ws) (limits budget buffer₀ spare₀ menu₀) (counts_of S.entries) done (get_or picks done 0 ∷ []) ≡ record { counts = counts_of M.entries; done = done + 1; refusal = 0 }
+        unfolding plain_run
+        one = run_fired house_table (net ws) (limits budget buffer₀ spare₀ menu₀) (counts_of S.entries) F.counts done (get_or picks done 0) [] F.is ∙ ap (λ (x : Counts). record { counts = x; done = done + 1; refusal = 0 }) (sym M.counted)
 
-                ran : plain_run house_table (net ws) (limits budget buffer₀ spare₀ menu₀) (first ws buffer₀ m) 0 (take (done + 1) picks) ≡ record { counts = counts_of M.entries; done = done + 1; refusal = 0 }
-                ran =
-                    ap (plain_run house_table (net ws) (limits budget buffer₀ spare₀ menu₀) (first ws buffer₀ m) 0) (ap (λ (i : ℕ). take i picks) (let i : done + 1 ≡ suc done = omega arith in i) ∙ take-suc picks done 0 h)
-                    ∙ run_append house_table (net ws) (limits budget buffer₀ spare₀ menu₀) (take done picks) (get_or picks done 0 ∷ []) (first ws buffer₀ m) 0
-                    ∙ ap (λ (x : End). further house_table (net ws) (limits budget buffer₀ spare₀ menu₀) x (get_or picks done 0 ∷ [])) S.ran
-                    ∙ one
+        ran : plain_run house_table (net ws) (limits budget buffer₀ spare₀ menu₀) (first ws buffer₀ m) 0 (take (done + 1) picks) ≡ record { counts = counts_of M.entries; done = done + 1; refusal = 0 }
+        ran =
+            ap (plain_run house_table (net ws) (limits budget buffer₀ spare₀ menu₀) (first ws buffer₀ m) 0) (ap (λ (i : ℕ). take i picks) (let i : done + 1 ≡ suc done = omega arith in i) ∙ take-suc picks done 0 h)
+            ∙ run_append house_table (net ws) (limits budget buffer₀ spare₀ menu₀) (take done picks) (get_or picks done 0 ∷ []) (first ws buffer₀ m) 0
+            ∙ ap (λ (x : End). further house_table (net ws) (limits budget buffer₀ spare₀ menu₀) x (get_or picks done 0 ∷ [])) S.ran
+            ∙ one
+
+        pub sofar_fired : {spare' menu' : List ℕ} → length after ≡ length buffer → length spare' ≡ length spare → length menu' ≡ length menu → length begins' ≡ length begins → Sofar ws budget buffer₀ m spare₀ menu₀ picks begins' after spare' menu' (done + 1) next
+        unfolding read_marking marking_read
+        sofar_fired l s n f = record {
+          many = omega arith;
+          buffer-kept = l ∙ S.buffer-kept;
+          spare-kept = s ∙ S.spare-kept;
+          menu-kept = n ∙ S.menu-kept;
+          inside = omega (arith, F.size, l, M.roomy, S.buffer-kept);
+          entries = M.entries;
+          end = length (marking_words (net ws) F.counts);
+          marked = marked;
+          full = f ∙ S.full;
+          begun = begun-then.of M.entries (length (marking_words (net ws) F.counts)) M.marked M.counted;
+          ran = ran;
+        }

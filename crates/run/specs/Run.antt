@@ -2,6 +2,7 @@
 -- Rests on semantics/specs/{Run, Calls} and starts/specs/Known.
 use Rattle.std.specs.Prelude.{◌≡◌, List, ℕ, ◌≤◌, ◌<◌, length, take}
 use Rattle.semantics.specs.declared.Outcome.{Outcome}
+use Rattle.semantics.specs.Answer.{stop_of, outcome_of}
 use Rattle.semantics.specs.Reading.{read}
 use Rattle.semantics.specs.Expression.{house_table}
 use Rattle.semantics.specs.Lists.{Every}
@@ -27,7 +28,7 @@ pub record Runnable (ws ps transitions parts buffer : List ℕ) (m : ℕ) (picks
 -- where the plain run ends, and the marking there at the front of the buffer
 pub record HasRun (net : Net) (e : End) (r : Ended) (after : List ℕ) : Type 0 where
   pub done : r.done ≡ e.done
-  pub refusal : r.refusal ≡ e.refusal
+  pub stopped : stop_of r.stopped ≡ record { number = e.refusal; position = 0 }
   pub size : r.length ≡ length (marking_words net e.counts)
   pub inside : r.length ≤ length after
   pub words : take r.length after ≡ marking_words net e.counts
@@ -38,4 +39,4 @@ HasRunFrom ws budget buffer m spare menu picks r after =
 
 -- answer and buffers, as the definition of the call has them
 abbrev pub run_end : Outcome → List ℕ → List ℕ → List ℕ → RunEnd
-run_end r buffer spare menu = record { answer = r; buffer = buffer; spare = spare; menu = menu }
+run_end r buffer spare menu = record { answer = outcome_of r; buffer = buffer; spare = spare; menu = menu }

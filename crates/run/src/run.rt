@@ -4,19 +4,18 @@ ghost use Rattle.semantics.specs.Calls.{run_call};
 ghost use Rattle.run.specs.Run.{Runnable, HasRunFrom, run_end};
 
 use beginnings::begins::index_marking;
-use expression::read::Skipped;
-use menus::menu::clear;
 use picks::pick::pick_once;
 use rests::keep::keep_rests;
 use semantics::Outcome;
+use semantics::refusal::Refusal;
 use starts::begin::begin;
 use word::size::at_most;
 
-// Where a run ended: picks done, the refusal that stopped it or 0, and the length of the marking.
+// Where a run ended: picks done, the refusal that stopped it, and the length of the marking.
 #[derive(Clone, Copy)]
 pub struct Ended {
     pub done: usize,
-    pub refusal: u32,
+    pub stopped: Option<Refusal>,
     pub length: usize,
 }
 
@@ -43,15 +42,16 @@ fn fire_picks(
     index_marking(net, places, &buffer[..m], &mut begins);
     let mut done = 0;
     let mut length = m;
+    // The run breaks with what it has come to at the first pick that is refused: a form that the project asks for.
     loop {
         if picks.len() <= done {
             break Ended {
-                done: done,
-                refusal: 0,
-                length: length,
+                done,
+                stopped: None,
+                length,
             };
         }
-        let one = pick_once(
+        match pick_once(
             net,
             places,
             transitions,
@@ -64,17 +64,19 @@ fn fire_picks(
             spare,
             menu,
             picks[done],
-        );
-        let refusal = one.refusal;
-        if refusal != 0 {
-            break Ended {
-                done: done,
-                refusal: refusal,
-                length: length,
-            };
+        ) {
+            Err(refusal) => {
+                break Ended {
+                    done,
+                    stopped: Some(refusal),
+                    length,
+                };
+            }
+            Ok(next) => {
+                length = next;
+                done += 1;
+            }
         }
-        length = one.length;
-        done += 1;
     }
 }
 
@@ -91,42 +93,36 @@ pub fn run(
     ensures { run_end result buffer.new spare.new menu.new ≡ run_call net.now budget buffer.old m spare.old menu.old picks.now }
 {
     let mut parts = [0usize; 2080];
-    let index = begin(net, buffer, m, picks, &mut parts);
-    let end = index.end;
-    match end {
-        Skipped::Refused(n, p) => Outcome {
-            done: 0,
-            refusal: n,
-            position: p,
-            length: 0,
-        },
-        Skipped::Next(_) => {
-            let places = at_most(64, index.places);
-            let transitions = at_most(64, index.transitions);
-            let places_at = index.places_at;
-            let transitions_at = index.transitions_at;
-            let ended = fire_picks(
-                net,
-                &places_at[..places],
-                &transitions_at[..transitions],
-                &parts[..],
-                budget,
-                buffer,
-                m,
-                spare,
-                menu,
-                picks,
-            );
-            let length = ended.length;
-            clear(&mut buffer[length..]);
-            clear(spare);
-            clear(menu);
-            Outcome {
-                done: ended.done,
-                refusal: ended.refusal,
-                position: 0,
-                length: length,
-            }
+    let index = match begin(net, buffer, m, picks, &mut parts) {
+        Ok(index) => index,
+        Err(refusal) => {
+            return Outcome {
+                done: 0,
+                stopped: Some(refusal),
+                length: 0,
+            };
         }
+    };
+    let places = at_most(64, index.places);
+    let transitions = at_most(64, index.transitions);
+    let ended = fire_picks(
+        net,
+        &index.places_at[..places],
+        &index.transitions_at[..transitions],
+        &parts[..],
+        budget,
+        buffer,
+        m,
+        spare,
+        menu,
+        picks,
+    );
+    buffer[ended.length..].fill(0);
+    spare.fill(0);
+    menu.fill(0);
+    Outcome {
+        done: ended.done,
+        stopped: ended.stopped,
+        length: ended.length,
     }
 }

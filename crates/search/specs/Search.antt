@@ -1,7 +1,9 @@
 -- What a search comes to: its tries, and the enabled bindings among its leaves.
 -- Rests on semantics/specs/{Tries, Enabling, Calls} and semantics/proofs/Settled.
-use Rattle.std.specs.Prelude.{◌≡◌, Bool, List, map, ℕ, ℤ}
+use Rattle.std.specs.Prelude.{◌≡◌, Bool, List, map, ℕ, ℤ, Result}
 use Rattle.semantics.specs.declared.Listed.{Listed}
+use Rattle.semantics.specs.declared.refusal.Refusal.{Refusal}
+use Rattle.semantics.specs.Answer.{listed_of}
 use Rattle.semantics.specs.Lists.{select}
 use Rattle.semantics.specs.Expression.{house_table}
 use Rattle.semantics.specs.Net.{Element}
@@ -27,5 +29,5 @@ pub record Settling (s : Situation) (inputs tested : List ℕ) (es : List Elemen
   pub settled : Settled house_table s.counts s.transition mask es p
 
 -- answer and menu, as the definition of the call has them
-abbrev pub menu_end : Listed → List ℕ → MenuEnd
-menu_end r buffer = record { answer = r; buffer = buffer }
+abbrev pub menu_end : Result Listed Refusal → List ℕ → MenuEnd
+menu_end r buffer = record { answer = listed_of r; buffer = buffer }

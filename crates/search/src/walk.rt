@@ -79,8 +79,7 @@ pub fn walk(
     let mut saved = [0u32; 8];
     save(slots, &mut saved);
     let mut cur = s;
-    let mut i = 0;
-    while i < step.count {
+    for i in 0..step.count {
         let t = cur.tries;
         if budget <= t {
             cur.spent = true;
@@ -144,7 +143,6 @@ pub fn walk(
                 return cur;
             }
         }
-        i += 1;
     }
     cur
 }

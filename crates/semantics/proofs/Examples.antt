@@ -5,8 +5,7 @@ use mathlib.Core.List.{List, [], ◌∷◌, ◌++◌, flat_map}
 use mathlib.Core.Option.{Option, none, some, bind}
 use Prim.Native.Nat.{ℕ}
 use lib.IntN.{ℤ, pos}
-use Rattle.semantics.specs.declared.Tested.TheVariants.{Yes, No}
-use Rattle.semantics.specs.declared.Listed.TheVariants.{Found}
+use Rattle.semantics.specs.Answer.{Yes, No, Found}
 use Rattle.semantics.specs.Word.{words_of_bytes}
 use Rattle.semantics.specs.Expression.{Expression, house_table, bound, operate, load_of, value, values_of, every_variable}
 use Rattle.semantics.specs.Reading.{Reading, read, refused, several, word_at, word, values_in}

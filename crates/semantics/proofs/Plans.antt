@@ -10,7 +10,7 @@ use Prim.Native.Nat.{ℕ, zero, suc}
 use native.Mathlib.Omega.{arith}
 use lib.IntN.{ℤ}
 use lib.ListN.{length, get_elem?, length-map}
-use Rattle.semantics.specs.declared.Listed.TheVariants.{Found, Refused as MenuRefused}
+use Rattle.semantics.specs.Answer.{Found, MenuRefused}
 use Rattle.semantics.specs.Lists.{every, select}
 use Rattle.semantics.specs.Word.{Range, value_word}
 use Rattle.semantics.specs.Expression.{Environment, house_table, bound}

@@ -4,15 +4,6 @@ use Rattle.std.specs.Prelude.{ℕ, ◌-◌, ◌/◌, ◌%◌, min, Bool, true, f
 use mathlib.Core.List.{List, [], ◌++◌, map, flat_map}
 use Rattle.std.proofs.Math.Option.{Option, none, some}
 use Rattle.std.proofs.Math.ListN.{get_elem?}
-use Rattle.semantics.specs.declared.Verdict.{Verdict}
-use Rattle.semantics.specs.declared.Verdict.TheVariants.{Accepted, Refused as CheckRefused}
-use Rattle.semantics.specs.declared.Tested.{Tested}
-use Rattle.semantics.specs.declared.Tested.TheVariants.{Yes, No, Refused as TestRefused}
-use Rattle.semantics.specs.declared.Listed.{Listed}
-use Rattle.semantics.specs.declared.Listed.TheVariants.{Found, Refused as MenuRefused}
-use Rattle.semantics.specs.declared.Fired.{Fired}
-use Rattle.semantics.specs.declared.Fired.TheVariants.{Written, Refused as FireRefused}
-use Rattle.semantics.specs.declared.Outcome.{Outcome}
 use Rattle.semantics.specs.Refusal.{net_ends_early, no_transition, bad_marking, bad_binding, bad_pick}
 use Rattle.semantics.specs.Word.{value_word, words_of_bytes}
 use Rattle.semantics.specs.Expression.{house_table}
@@ -22,7 +13,7 @@ use Rattle.semantics.specs.Plan.{accept_front, accept_net}
 use Rattle.semantics.specs.Marking.{Entry, Counts, read_marking, read_binding, first_unknown, first_malformed, counts_of, marking_words}
 use Rattle.semantics.specs.Enabling.{is_enabled, Firing, moved, stopped}
 use Rattle.semantics.specs.Run.{Offer, offered, withheld, offer, fire, Limits, End, plain_run}
-use Rattle.semantics.specs.Answer.{Refusal, unrefused}
+use Rattle.semantics.specs.Answer.{Refusal, unrefused, Verdict, Accepted, CheckRefused, Tested, Yes, No, TestRefused, Listed, Found, MenuRefused, Fired, Written, FireRefused, Outcome}
 
 -- words written to the front of a buffer: "words beyond stay"
 abbrev pub written : List ℕ → List ℕ → List ℕ

@@ -2,40 +2,22 @@
 // What the numbers and values of document 01 are in each case stands in specs/Answer.antt.
 #![tactic(auto)]
 
-// Check: accepted, or refused with a number at a position.
-#[derive(Clone, Copy)]
-pub enum Verdict {
-    Accepted,
-    Refused(u32, usize),
-}
+// Why a call is refused, and at which word.
+pub mod refusal;
 
-// Test: whether the binding is enabled.
-#[derive(Clone, Copy)]
-pub enum Tested {
-    Yes,
-    No,
-    Refused(u32, usize),
-}
+use crate::refusal::Refusal;
 
 // Menu: the number of enabled bindings, N, and the tries of the transition's plan, W.
-#[derive(Clone, Copy)]
-pub enum Listed {
-    Found(u32, u32),
-    Refused(u32, usize),
+#[derive(Clone, Copy, Debug, PartialEq, Eq)]
+pub struct Listed {
+    pub bindings: u32,
+    pub tries: u32,
 }
 
-// Fire: the length of the new marking in words.
-#[derive(Clone, Copy)]
-pub enum Fired {
-    Written(usize),
-    Refused(u32, usize),
-}
-
-// Run: picks done, the refusal that ended it and its position (0 and 0 for none), and the marking's length in words.
-#[derive(Clone, Copy)]
+// Run: picks done, the refusal that ended it, and the marking's length in words.
+#[derive(Clone, Copy, Debug, PartialEq, Eq)]
 pub struct Outcome {
     pub done: usize,
-    pub refusal: u32,
-    pub position: usize,
+    pub stopped: Option<Refusal>,
     pub length: usize,
 }

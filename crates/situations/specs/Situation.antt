@@ -1,16 +1,16 @@
 -- What the calls on a transition and a marking start from, as the code has it.
 -- Rests on semantics/specs/Calls, net/specs/Skim and marking/specs/Marked.
-use Rattle.std.specs.Prelude.{◌≡◌, ℕ, ◌≤◌, List, take}
+use Rattle.std.specs.Prelude.{◌≡◌, ℕ, ◌≤◌, List, take, Result, Ok, Err}
+use Rattle.semantics.specs.declared.refusal.Refusal.{Refusal}
+use Rattle.semantics.specs.Answer.{refusing}
 use Rattle.std.proofs.Math.Option.{some}
 use Rattle.std.proofs.Math.ListN.{get_elem?}
-use Rattle.semantics.specs.Reading.{read, refused}
+use Rattle.semantics.specs.Reading.{read}
 use Rattle.semantics.specs.Net.{Transition, Net}
 use Rattle.semantics.specs.ReadNet.{read_transition}
 use Rattle.semantics.specs.Plan.{accept_net}
 use Rattle.semantics.specs.Marking.{Entry, counts_of}
 use Rattle.semantics.specs.Calls.{situation}
-use Rattle.expression.specs.declared.read.Skipped.TheVariants.{Next, Refused}
-use Rattle.expression.specs.declared.read.Skipped.{Skipped}
 use Rattle.net.specs.declared.index.Parts.{Parts}
 use Rattle.net.specs.Skim.{Outline, outline}
 use Rattle.net.specs.Index.{outlined as outlined_parts}
@@ -18,9 +18,8 @@ use Rattle.net.specs.Places.{places_at, PlacesFit}
 use Rattle.marking.specs.Marked.{marking_read, Begins}
 use Rattle.situations.specs.declared.situation.Situation.{Situation}
 
--- an answer of prepare, with the tables that were lent to it
+-- a situation, with the tables that were lent to prepare
 pub record Index : Type 0 where
-  pub end : Skipped
   pub places : ℕ
   pub places_at : List ℕ
   pub position : ℕ
@@ -29,7 +28,7 @@ pub record Index : Type 0 where
   pub begins : List ℕ
 
 abbrev pub index : Situation → List ℕ → List ℕ → List ℕ → Index
-index r places own begins = record { end = r.end; places = r.places; places_at = places; position = r.position; transition = r.transition; own = own; begins = begins }
+index r places own begins = record { places = r.places; places_at = places; position = r.position; transition = r.transition; own = own; begins = begins }
 
 -- where the parts of its transition begin: at the front of its table
 abbrev pub outlined : Index → Outline
@@ -58,6 +57,7 @@ pub record Prepared (ws : List ℕ) (t : ℕ) (ms : List ℕ) (r : Index) : Type
   pub begins : Begins net.places entries r.begins
   pub same : situation ws t ms ≡ read (record { net = net; transition = transition; counts = counts_of entries }) 0
 
-pub record IsSituation (ws : List ℕ) (t : ℕ) (ms : List ℕ) (r : Index) : Type 0 where
-  pub refuses : (n p : ℕ) → r.end ≡ Refused n p → situation ws t ms ≡ refused n p
-  pub prepares : (next : ℕ) → r.end ≡ Next next → Prepared ws t ms r
+-- what prepare answers, with the tables
+abbrev pub IsSituation : List ℕ → ℕ → List ℕ → Result Situation Refusal → List ℕ → List ℕ → List ℕ → Type 0
+IsSituation ws t ms (Ok s) places own begins = Prepared ws t ms (index s places own begins)
+IsSituation ws t ms (Err e) places own begins = situation ws t ms ≡ refusing e

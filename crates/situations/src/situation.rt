@@ -1,40 +1,20 @@
 // What the calls on a transition and a marking start from: refusals 1 to 7, then the index of all three. How many structures there are is
 // answered; where they begin stands in tables that the caller lends, so that none is copied. Rests on accept, net::index and marking::index.
 ghost use Rattle.std.specs.Prelude.{◌≡◌, length};
-ghost use Rattle.situations.specs.Situation.{IsSituation, index};
+ghost use Rattle.situations.specs.Situation.{IsSituation};
 
 use accept::accepted::accept_into;
-use expression::read::Skipped;
 use marking::index::read_marking;
 use net::index::{Parts, parts_of};
+use semantics::refusal::Refusal;
 use word::size::at_most;
 
-// How many places an accepted net has, the position of one of its transitions and how many of each part it has; or a refusal.
+// How many places an accepted net has, the position of one of its transitions and how many of each part it has.
 #[derive(Clone, Copy)]
 pub struct Situation {
-    pub end: Skipped,
     pub places: usize,
     pub position: usize,
     pub transition: Parts,
-}
-
-// No situation, but a refusal.
-fn refused_situation(end: Skipped) -> Situation
-    ensures { result.end ≡ end }
-{
-    Situation {
-        end: end,
-        places: 0,
-        position: 0,
-        transition: Parts {
-            end: end,
-            variables: 0,
-            inputs: 0,
-            outputs: 0,
-            conjuncts: 0,
-            elements: 0,
-        },
-    }
 }
 
 // Net, then transition, then marking. Where the net's places begin, the transition's parts, and the entries of each place in the marking, is written to three
@@ -47,9 +27,9 @@ pub fn prepare(
     places_at: &mut [usize],
     own: &mut [usize],
     begins: &mut [usize],
-) -> Situation
+) -> Result<Situation, Refusal>
     requires { (length places_at.old ≡ 64) × (length own.old ≡ 64) × (length begins.old ≡ 65) }
-    ensures { IsSituation net.now transition marking.now (index result places_at.new own.new begins.new) }
+    ensures { IsSituation net.now transition marking.now result places_at.new own.new begins.new }
 {
     let mut widths = [0usize; 64];
     let number = transition as usize;
@@ -61,22 +41,16 @@ pub fn prepare(
         &mut begins[..64],
         number,
         own,
-    );
-    let end = extent.end;
-    let Skipped::Next(_) = end else {
-        return refused_situation(end);
-    };
+    )?;
     if at_most(64, extent.transitions) <= number {
-        return refused_situation(Skipped::Refused(6, 0));
+        return Err(Refusal::NoTransition(0));
     }
     let position = begins[number];
     let places = at_most(64, extent.places);
-    let t = parts_of(end, net[position]);
-    let marking_end = read_marking(net, &places_at[..places], marking, begins);
-    Situation {
-        end: marking_end,
-        places: places,
-        position: position,
-        transition: t,
-    }
+    read_marking(net, &places_at[..places], marking, begins)?;
+    Ok(Situation {
+        places,
+        position,
+        transition: parts_of(net[position]),
+    })
 }

@@ -5,48 +5,34 @@ use mathlib.Core.Logic.{◌⊎◌, inl, inr}
 use mathlib.Core.Bool.{Bool, true, false, cond}
 use mathlib.Core.List.{List}
 use mathlib.Core.Option.{Option, none, some, bind}
-use Prim.Native.Nat.{ℕ, ◌+◌, ◌≤◌, ◌<◌}
+use Prim.Native.Nat.{ℕ, ◌+◌, ◌<◌}
 use native.Mathlib.Omega.{arith}
-use borrow.Author.Tests.{ltb-true, ne_eqb}
+use borrow.Author.Tests.{ltb-true}
 use lib.Dec.{eqb}
 use lib.IntN.{ℤ}
 use lib.ListN.{length, take, get_or, get_elem?}
-use lib.Seq.{length-take-le, take_all}
+use lib.Seq.{take_all}
 use Rattle.semantics.specs.Word.{kind, payload, Range}
 use Rattle.semantics.specs.Expression.{Environment, Expression, constant, variable, binary, load, house_table, value, every_variable}
 use Rattle.semantics.specs.Reading.{Reading, read}
 use Rattle.semantics.specs.Net.{Conjunct}
 use Rattle.semantics.specs.ReadNet.{read_expression}
 use Rattle.semantics.specs.Plan.{Solution, either_side, solution}
-use Rattle.semantics.specs.Tries.{Partial, partly, present, is_bound_in, bind_new}
+use Rattle.semantics.specs.Tries.{Partial, partly, is_bound_in, bind_new}
 use Rattle.semantics.proofs.Readers.{given}
 use Rattle.semantics.proofs.Accepted.{SoundExpression, expression_reads}
 use Rattle.semantics.proofs.Fitness.{Solves, solution_solves}
-use Rattle.numbers.specs.declared.number.Number.{Number}
-use Rattle.numbers.specs.declared.number.Number.TheVariants.{Some, None}
-use Rattle.numbers.specs.Number.{number}
-use Rattle.evaluation.specs.declared.evaluate.Evaluated.{Evaluated}
-use Rattle.evaluation.specs.declared.evaluate.Evaluated.TheVariants.{Value, NoValue}
-use Rattle.evaluation.specs.Evaluate.{value_of, lent, evaluated, evaluated_from}
+use Rattle.std.specs.Prelude.{Some, None}
+use Rattle.evaluation.specs.Evaluate.{lent, valued, evaluated_from}
 use Rattle.expression.proofs.Spelled.{HeadWord, head_of_tree}
 use Rattle.expression.proofs.Laws.{first_word, variable-alone}
-use Rattle.evaluation.proofs.Answers.{read-value, read_no_value}
+use Rattle.evaluation.proofs.Answers.{read-value}
 use Rattle.expression.specs.Standing.{HasExpression}
 use Rattle.net.specs.Standing.{HasConjunct}
 use Rattle.net.proofs.Standing.{sides, right-stands, right-inside}
-use Rattle.solving.specs.declared.solve.Lone.TheVariants.{Unbound, Nothing as NotLone}
 use Rattle.tries.specs.Partial.{partial_of, bound_by}
 use Rattle.solving.specs.Solve.{value_told, value_for, IsLone, bound_at, unbound_alone, alone, side_of, solved_by, solved_from, solved_at}
-use Rattle.tries.proofs.Slots.{slots_lent, slot_read}
-
--- ── A slot that is looked at ──
-
-module _ (v n : ℕ) (b : List ℕ) (h : n < v) {r : Number} (e : number r ≡ value_of (get_or b n 0)) where
-  pub slot_bound : {z : ℤ} → r ≡ Some z → is_bound_in (partial_of v b) n ≡ true
-  slot_bound d = ap present (slot_read v n b h ∙ sym e ∙ ap number d)
-
-  pub slot_unbound : r ≡ None → is_bound_in (partial_of v b) n ≡ false
-  slot_unbound d = ap present (slot_read v n b h ∙ sym e ∙ ap number d)
+use Rattle.tries.proofs.Slots.{slots_lent}
 
 -- ── A value that may be missing ──
 
@@ -54,30 +40,22 @@ module _ (v n : ℕ) (b : List ℕ) (h : n < v) {r : Number} (e : number r ≡ v
 pub slots_stand : {ws : List ℕ} {v n at : ℕ} → n ≡ v → HasExpression ws v at → HasExpression ws n at
 slots_stand l h = rw l h
 
-pub all_slots : (ws b : List ℕ) (v at : ℕ) → length b ≡ v → (r : Evaluated) → evaluated r ≡ evaluated_from (lent b) (read_expression ws (length b) at) → evaluated r ≡ evaluated_from (lent (take v b)) (read_expression ws (length (take v b)) at)
-all_slots ws b v at l r e = rw (take_all v b (omega arith)) e
+-- all of them are looked at
+pub first-slots : (v : ℕ) (b : List ℕ) → length b ≡ v → take v b ≡ b
+first-slots v b l = take_all v b (omega arith)
 
-module _ (ws b : List ℕ) (v at : ℕ) (l : v ≤ length b) {r : Evaluated} (h : evaluated r ≡ evaluated_from (lent (take v b)) (read_expression ws (length (take v b)) at)) where
-  told : {u : Evaluated} → r ≡ u → value_for ws v b at ≡ value_told (evaluated u)
-  told d = sym (ap value_told (rw (length-take-le v b l) at h)) ∙ ap (λ (x : Evaluated). value_told (evaluated x)) d
+module _ (ws b : List ℕ) (v at : ℕ) (l : length b ≡ v) {o : Option ℤ} {q : ℕ} (h : valued o q ≡ evaluated_from (lent b) (read_expression ws (length b) at)) where
+  told : value_for ws v b at ≡ o
+  told = rw (first-slots v b l) (sym (ap value_told (rw l at h)))
 
   module _ (ranges : List Range) (n : ℕ) where
-    pub bound-value : {z : ℤ} {p : ℕ} {x : Option Partial} → r ≡ Value z p → x ≡ bind_new (partial_of v b) n (get_elem? ranges n) z → x ≡ bound_by ranges (partial_of v b) n (value_for ws v b at)
+    pub bound-value : {z : ℤ} → o ≡ some z → bind_new (partial_of v b) n (get_elem? ranges n) z ≡ bound_by ranges (partial_of v b) n (value_for ws v b at)
     unfolding bind
-    bound-value d f = rw (told d) f
+    bound-value d = rw (told, d)
 
-    pub bound-none : {p : ℕ} → r ≡ NoValue p → none ≡ bound_by ranges (partial_of v b) n (value_for ws v b at)
+    pub bound-none : o ≡ none → none ≡ bound_by ranges (partial_of v b) n (value_for ws v b at)
     unfolding bind
-    bound-none d = rw (told d)
-
--- ── A word that is looked at ──
-
-module _ (ws : List ℕ) (ranges : List Range) (p : Partial) (at : ℕ) (z : ℤ) where
-  pub lone-other : (kind (get_or ws at 0) ≡ 8 → ⊥) → none ≡ bound_at ws ranges p at z
-  lone-other k = rw (ne_eqb (kind (get_or ws at 0)) 8 k)
-
-  pub lone-bound : {n : ℕ} → kind (get_or ws at 0) ≡ 8 → n ≡ payload (get_or ws at 0) → {x : Option Partial} → x ≡ bind_new p n (get_elem? ranges n) z → x ≡ bound_at ws ranges p at z
-  lone-bound k e f = rw (k, ← e) f
+    bound-none d = rw (told, d)
 
 -- ── Which side is solved for ──
 
@@ -123,11 +101,14 @@ module _ {ws : List ℕ} {v at : ℕ} (h : HasConjunct ws v at) (b : List ℕ) w
   same : (e : Expression) → value house_table (lent (take v b)) e ≡ value house_table (partly (partial_of v b)) e
   same e = ap (λ (env : Environment). value house_table env e) (slots_lent v b)
 
-  settled : IsLone ws v b (at + 1) NotLone → unbound_alone (is_bound_in (partial_of v b)) h.conjunct.left ≡ none
+  known : length b ≡ v → value house_table (partly (partial_of v b)) h.conjunct.left ≡ value house_table (lent b) h.conjunct.left
+  known l = sym (same h.conjunct.left) ∙ ap (λ (bs : List ℕ). value house_table (lent bs) h.conjunct.left) (first-slots v b l)
+
+  settled : IsLone ws v b (at + 1) None → unbound_alone (is_bound_in (partial_of v b)) h.conjunct.left ≡ none
   settled k = not_unbound v (get_or ws (at + 1) 0) (partial_of v b) k h.conjunct.left (first_word ws v (at + 1) (sides h).left) (given (expression_reads ws v (at + 1)) (sides h).left).0
 
   -- behind an unbound variable alone stands the right side
-  pub behind-lone : {n : ℕ} → IsLone ws v b (at + 1) (Unbound n) → HasExpression ws v (at + 2)
+  pub behind-lone : {n : ℕ} → IsLone ws v b (at + 1) (Some n) → HasExpression ws v (at + 2)
   behind-lone k = let m : (sides h).mid ≡ at + 2 = (variable-alone ws v (at + 1) (sides h).left k.0).1 ∙ omega arith in rw (← m) (right-stands h)
 
   module _ (ranges : List Range) where
@@ -135,7 +116,7 @@ module _ {ws : List ℕ} {v at : ℕ} (h : HasConjunct ws v at) (b : List ℕ) w
     answer = sym (ap (solved_from ranges (partial_of v b)) h.reads)
 
     -- the left side is an unbound variable alone
-    pub left_unbound : {n : ℕ} → IsLone ws v b (at + 1) (Unbound n) → {x : Option Partial} → x ≡ bound_by ranges (partial_of v b) n (value_for ws v b (at + 2)) → x ≡ solved_at ws ranges v (partial_of v b) at
+    pub left_unbound : {n : ℕ} → IsLone ws v b (at + 1) (Some n) → {x : Option Partial} → x ≡ bound_by ranges (partial_of v b) n (value_for ws v b (at + 2)) → x ≡ solved_at ws ranges v (partial_of v b) at
     left_unbound {n} k f =
         let s = sides h in
         let a = variable-alone ws v (at + 1) s.left k.0 in
@@ -147,21 +128,21 @@ module _ {ws : List ℕ} {v at : ℕ} (h : HasConjunct ws v at) (b : List ℕ) w
         ∙ answer
 
     -- it is not
-    module _ (k : IsLone ws v b (at + 1) NotLone) (l : v ≤ length b) {r : Evaluated} (e : evaluated r ≡ evaluated_from (lent (take v b)) (read_expression ws (length (take v b)) (at + 1))) where
-      pub left-value : {z : ℤ} {q : ℕ} → r ≡ Value z q → {x : Option Partial} → x ≡ bound_at ws ranges (partial_of v b) q z → x ≡ solved_at ws ranges v (partial_of v b) at
-      left-value {z} {q} d f =
-          let y = read-value ws v (at + 1) (sides h).left (take v b) (length-take-le v b l) r e d in
+    module _ (k : IsLone ws v b (at + 1) None) (l : length b ≡ v) {o : Option ℤ} {q : ℕ} (e : valued o q ≡ evaluated_from (lent b) (read_expression ws (length b) (at + 1))) where
+      pub left-value : {z : ℤ} → o ≡ some z → {x : Option Partial} → x ≡ bound_at ws ranges (partial_of v b) q z → x ≡ solved_at ws ranges v (partial_of v b) at
+      left-value {z} d f =
+          let y = read-value ws v (at + 1) (sides h).left b l e in
           f
           ∙ ap (λ (i : ℕ). bound_at ws ranges (partial_of v b) i z) y.1
-          ∙ by_right ranges (partial_of v b) h.conjunct (settled k) (get_or ws (sides h).mid 0) z (first_word ws v (sides h).mid (sides h).right) (sym (same h.conjunct.left) ∙ y.0)
+          ∙ by_right ranges (partial_of v b) h.conjunct (settled k) (get_or ws (sides h).mid 0) z (first_word ws v (sides h).mid (sides h).right) (known l ∙ y.0 ∙ d)
           ∙ answer
 
-      pub left-none : {q : ℕ} → r ≡ NoValue q → none ≡ solved_at ws ranges v (partial_of v b) at
-      left-none d = by_none ranges (partial_of v b) h.conjunct (settled k) (sym (same h.conjunct.left) ∙ (read_no_value ws v (at + 1) (sides h).left (take v b) (length-take-le v b l) r e d).0) ∙ answer
+      pub left-none : o ≡ none → none ≡ solved_at ws ranges v (partial_of v b) at
+      left-none d = by_none ranges (partial_of v b) h.conjunct (settled k) (known l ∙ (read-value ws v (at + 1) (sides h).left b l e).0 ∙ d) ∙ answer
 
   -- the right side begins where the left one ends
-  pub left-ends : v ≤ length b → {r : Evaluated} → evaluated r ≡ evaluated_from (lent (take v b)) (read_expression ws (length (take v b)) (at + 1)) → {z : ℤ} {q : ℕ} → r ≡ Value z q → q < length ws
-  left-ends l {r} e d = rw (read-value ws v (at + 1) (sides h).left (take v b) (length-take-le v b l) r e d).1 (right-inside h)
+  pub left-ends : length b ≡ v → {o : Option ℤ} {q : ℕ} → valued o q ≡ evaluated_from (lent b) (read_expression ws (length b) (at + 1)) → q < length ws
+  left-ends l e = rw (read-value ws v (at + 1) (sides h).left b l e).1 (right-inside h)
 
 -- ── The side that the semantics solves for ──
 

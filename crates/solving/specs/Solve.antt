@@ -1,6 +1,7 @@
 -- What a solve tries, told from the words of its conjunct. In an accepted plan one side fits, so a look at the left side decides which.
 -- Rests on semantics/specs/{Plan, Tries}, evaluation/specs/Evaluate and Partial.
-use Rattle.std.specs.Prelude.{◌≡◌, Bool, true, false, cond, List, ℕ, ◌<◌, eqb, ℤ, get_or, take}
+use Rattle.std.specs.Prelude.{◌≡◌, Bool, true, false, cond, List, ℕ, ◌<◌, eqb, ℤ, get_or, take, Some, None}
+use Rattle.std.specs.Prelude as prelude
 use Rattle.std.proofs.Math.Option.{Option, none, some, bind}
 use Rattle.std.proofs.Math.ListN.{get_elem?}
 use Rattle.semantics.specs.Word.{kind, payload, Range}
@@ -11,8 +12,6 @@ use Rattle.semantics.specs.ReadNet.{read_expression, read_conjunct}
 use Rattle.semantics.specs.Plan.{Solution, either_side}
 use Rattle.semantics.specs.Tries.{Partial, partly, is_bound_in, bind_new}
 use Rattle.evaluation.specs.Evaluate.{lent, Valuation, valued, unread, evaluated_from}
-use Rattle.solving.specs.declared.solve.Lone.{Lone}
-use Rattle.solving.specs.declared.solve.Lone.TheVariants.{Unbound, Nothing}
 use Rattle.tries.specs.Partial.{partial_of, bound_by}
 
 -- a value that was told, if there is one
@@ -25,9 +24,9 @@ abbrev pub value_for : List ℕ → ℕ → List ℕ → ℕ → Option ℤ
 value_for ws v b at = value_told (evaluated_from (lent (take v b)) (read_expression ws v at))
 
 -- what a look at the word of a position tells
-abbrev pub IsLone : List ℕ → ℕ → List ℕ → ℕ → Lone → Type 0
-IsLone ws v b at (Unbound n) = (kind (get_or ws at 0) ≡ 8) × (n ≡ payload (get_or ws at 0)) × (n < v) × (is_bound_in (partial_of v b) n ≡ false)
-IsLone ws v b at Nothing = kind (get_or ws at 0) ≡ 8 → payload (get_or ws at 0) < v → is_bound_in (partial_of v b) (payload (get_or ws at 0)) ≡ true
+abbrev pub IsLone : List ℕ → ℕ → List ℕ → ℕ → prelude.Option ℕ → Type 0
+IsLone ws v b at (Some n) = (kind (get_or ws at 0) ≡ 8) × (n ≡ payload (get_or ws at 0)) × (n < v) × (is_bound_in (partial_of v b) n ≡ false)
+IsLone ws v b at None = kind (get_or ws at 0) ≡ 8 → payload (get_or ws at 0) < v → is_bound_in (partial_of v b) (payload (get_or ws at 0)) ≡ true
 
 -- the variable alone at a position takes a value
 abbrev pub bound_at : List ℕ → List Range → Partial → ℕ → ℤ → Option Partial

@@ -7,8 +7,7 @@ ghost use Rattle.net.specs.Standing.{HasConjunct};
 ghost use Rattle.tries.specs.Partial.{partial_of, bound_by, IsTried};
 ghost use Rattle.solving.specs.Solve.{value_for, IsLone, bound_at, solved_at};
 
-use evaluation::evaluate::{Evaluated, evaluate, value_of};
-use numbers::number::Number;
+use evaluation::evaluate::{evaluate, value_of};
 use tries::partial::bind_new;
 use word::fields::{kind, payload};
 
@@ -25,36 +24,26 @@ fn bind_value(
     requires has_expression { HasExpression net.now variables at }
     ensures { IsTried variables (bound_by (ranges_from net.now variables ranges) (partial_of variables slots.old) n (value_for net.now variables slots.old at)) slots.old result slots.new }
 {
-    match evaluate(net, slots, at) {
-        Evaluated::Value(z, _) => bind_new(net, ranges, variables, slots, n, z),
-        Evaluated::NoValue(_) => false,
-    }
+    let Some(z) = evaluate(net, slots, at).value else {
+        return false;
+    };
+    bind_new(net, ranges, variables, slots, n, z)
 }
 
-// An unbound variable that stands alone at a position, or none does.
-#[derive(Clone, Copy)]
-pub enum Lone {
-    Unbound(usize),
-    Nothing,
-}
-
-// What stands at a position, under a partial binding.
-fn lone_at(net: &[u32], variables: usize, slots: &[u32], at: usize) -> Lone
+// The variable that stands alone at a position, where a partial binding leaves it unbound.
+fn lone_at(net: &[u32], variables: usize, slots: &[u32], at: usize) -> Option<usize>
     requires { (length slots.now ≡ variables) × (at < length net.now) }
     ensures { IsLone net.now variables slots.now at result }
 {
     let w = net[at];
     if kind(w) != 8 {
-        return Lone::Nothing;
+        return None;
     }
     let n = payload(w) as usize;
-    if variables <= n {
-        return Lone::Nothing;
+    if variables <= n || value_of(slots[n]).is_some() {
+        return None;
     }
-    match value_of(slots[n]) {
-        Number::Some(_) => Lone::Nothing,
-        Number::None => Lone::Unbound(n),
-    }
+    Some(n)
 }
 
 // The variable alone at a position takes a value, where one stands there.
@@ -83,11 +72,12 @@ pub fn solve_at(net: &[u32], ranges: usize, variables: usize, slots: &mut [u32],
     requires has_conjunct { HasConjunct net.now variables at }
     ensures { IsTried variables (solved_at net.now (ranges_from net.now variables ranges) variables (partial_of variables slots.old) at) slots.old result slots.new }
 {
-    match lone_at(net, variables, slots, at + 1) {
-        Lone::Unbound(n) => bind_value(net, ranges, variables, slots, n, at + 2),
-        Lone::Nothing => match evaluate(net, slots, at + 1) {
-            Evaluated::Value(z, right) => bind_lone(net, ranges, variables, slots, right, z),
-            Evaluated::NoValue(_) => false,
-        },
+    if let Some(n) = lone_at(net, variables, slots, at + 1) {
+        return bind_value(net, ranges, variables, slots, n, at + 2);
     }
+    let left = evaluate(net, slots, at + 1);
+    let Some(z) = left.value else {
+        return false;
+    };
+    bind_lone(net, ranges, variables, slots, left.next, z)
 }

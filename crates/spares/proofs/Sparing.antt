@@ -1,16 +1,12 @@
--- The rules of sparing arcs: what the loops know of the words, arcs and elements that they have passed, and that the components of an arc stand in the
--- words behind its coefficient of one word.
+-- The rules of sparing arcs: the components of an arc stand in the words behind its coefficient of one word, and what the loop over the arcs knows of
+-- those that it has passed.
 use mathlib.Core.Path.{◌≡◌, refl, sym, ap, ◌∙◌, subst}
-use mathlib.Core.Logic.{◌⊎◌, inl, inr}
-use mathlib.Core.Bool.{Bool, true, false, not}
+use mathlib.Core.Bool.{Bool, true, false}
 use mathlib.Core.List.{List, [], ◌∷◌, ◌++◌}
 use mathlib.Core.Option.{some}
 use Prim.Native.Nat.{ℕ, zero, suc, ◌+◌, ◌≤◌, ◌<◌}
-use native.Mathlib.Nat.{eq-or-lt_of_le}
 use native.Mathlib.Omega.{arith}
 use native.Mathlib.Numerals.{add-one}
-use borrow.Author.Rules.{rules}
-use borrow.Author.Tests.{not-false}
 use lib.ListN.{length, get_or, get_elem?, set, take, length-set, length-take, length-append}
 use lib.Seq.{take-suc, take_all}
 use Rattle.semantics.specs.Word.{kind, payload}
@@ -22,62 +18,11 @@ use Rattle.semantics.proofs.Tests.{false_true}
 use Rattle.semantics.proofs.Spans.{then-read}
 use Rattle.semantics.proofs.Settled.{kept}
 use Rattle.expression.proofs.Laws.{expression_short}
-use Rattle.net.specs.Places.{width_at, places_at, PlacesFit}
+use Rattle.net.specs.Places.{width_at, places_at}
 use Rattle.net.specs.Standing.{HasArc}
 use Rattle.net.proofs.Loops.{take-set}
-use Rattle.net.proofs.Standing.{place_of, coefficient-inside, behind-constant, parts, arc-inside, place-there, components-read}
-use Rattle.net.proofs.Placed.{place_inside}
-use Rattle.spares.specs.Spare.{Inside, Within, AreLone, LoneIf, IsAlone, AloneIf, MatchedIf, Spares, SparesIf, LeftOut, IsRest}
-
--- ── Words, arcs and elements that were passed ──
-
-pub lone-start : (ws : List ℕ) (at : ℕ) → AreLone ws at 0
-lone-start ws at = record { each = λ i h. absurd (omega arith) }
-
-pub lone_turn : {ws : List ℕ} {at i : ℕ} → AreLone ws at i → (kind (get_or ws (at + i) 0) ≡ 9 → ⊥) → AreLone ws at (i + 1)
-lone_turn {ws} {at} {i} a n = record { each = λ j h. by j (eq-or-lt_of_le (omega arith)) }
-  where
-    by : (j : ℕ) → (j ≡ i) ⊎ (j < i) → kind (get_or ws (at + j) 0) ≡ 9 → ⊥
-    by j (inl e) = subst (λ (k : ℕ). kind (get_or ws (at + k) 0) ≡ 9 → ⊥) (sym e) n
-    by j (inr l) = a.each j l
-
-pub lone_yes : {ws : List ℕ} {at width i : ℕ} → AreLone ws at i → width ≤ i → LoneIf ws at width true
-lone_yes a h = record { told = λ e. record { each = λ j l. a.each j (omega arith) } }
-
-pub lone_no : {ws : List ℕ} {at width : ℕ} → LoneIf ws at width false
-lone_no = record { told = λ e. false_true e }
-
-pub alone-start : (ws inputs : List ℕ) (k : ℕ) → IsAlone ws inputs k 0
-alone-start ws inputs k = record { others = λ j h. absurd (omega arith) }
-
-module _ {ws inputs : List ℕ} {k j : ℕ} (a : IsAlone ws inputs k j) where
-  next : ((j ≡ k → ⊥) → get_or ws (get_or inputs j 0) 0 ≡ get_or ws (get_or inputs k 0) 0 → ⊥) → IsAlone ws inputs k (j + 1)
-  next n = record { others = λ i h. by i (eq-or-lt_of_le (omega arith)) }
-    where
-      by : (i : ℕ) → (i ≡ j) ⊎ (i < j) → (i ≡ k → ⊥) → get_or ws (get_or inputs i 0) 0 ≡ get_or ws (get_or inputs k 0) 0 → ⊥
-      by i (inl e) = subst (λ (q : ℕ). (q ≡ k → ⊥) → get_or ws (get_or inputs q 0) 0 ≡ get_or ws (get_or inputs k 0) 0 → ⊥) (sym e) n
-      by i (inr l) = a.others i l
-
-  pub alone-own : j ≡ k → IsAlone ws inputs k (j + 1)
-  alone-own e = next (λ d. absurd (d e))
-
-  pub alone_turn : {w : ℕ} → w ≡ get_or ws (get_or inputs k 0) 0 → (get_or ws (get_or inputs j 0) 0 ≡ w → ⊥) → IsAlone ws inputs k (j + 1)
-  alone_turn e n = next (λ d f. n (f ∙ sym e))
-
-  pub alone_yes : length inputs ≤ j → AloneIf ws inputs k true
-  alone_yes h = record { told = λ e. record { others = λ i l. a.others i (omega arith) } }
-
-pub alone_no : {ws inputs : List ℕ} {k : ℕ} → AloneIf ws inputs k false
-alone_no = record { told = λ e. false_true e }
-
-pub matched_yes : {ws elements : List ℕ} {k i : ℕ} → i < length elements → get_or ws (get_or elements i 0) 0 ≡ 0xA0000000 + k → MatchedIf ws elements k true
-matched_yes {i = i} h e = record { told = λ f. record { number = i; inside = h; word = e } }
-
-pub matched_no : {ws elements : List ℕ} {k : ℕ} → MatchedIf ws elements k false
-matched_no = record { told = λ e. false_true e }
-
-pub inside_at : {ws ats : List ℕ} {i : ℕ} → Inside ws ats → i < length ats → get_or ats i 0 < length ws
-inside_at w h = w.each _ h
+use Rattle.net.proofs.Standing.{place_of, coefficient-inside, behind-constant, parts, arc-inside, components-read}
+use Rattle.spares.specs.Spare.{Inside, Within, Spares, SparesIf, LeftOut, IsRest}
 
 -- ── An arc ──
 
@@ -105,9 +50,6 @@ module _ {ws ps inputs elements : List ℕ} (w : Within ws ps inputs elements) w
     coefficient-there = (coefficient-inside ws (places_at ws ps) w.variables (get_or inputs k 0) (arc_at k h).reads).0
 
     module _ {place : ℕ} (e : place ≡ payload (get_or ws (get_or inputs k 0) 0)) where
-      pub place-word : PlacesFit ws ps → get_or ps place 0 < length ws
-      place-word f = let i = place_inside f (place-there (arc_at k h) e) in omega arith
-
       -- the components stand behind a coefficient of one word
       pub components-there : {width : ℕ} → width ≡ payload (get_or ws (get_or ps place 0) 0) → get_or ws (get_or inputs k 0 + 1) 0 ≡ 0x70000001 → get_or inputs k 0 + 2 + width ≤ length ws
       components-there {width} g o =
@@ -117,14 +59,6 @@ module _ {ws ps inputs elements : List ℕ} (w : Within ws ps inputs elements) w
           let q = several-long ws w.variables (width_at ws (get_or ps (place_of ws (get_or inputs k 0)) 0)) p.mid (arc_at k h).arc.components p.next (components-read (arc_at k h)) s.in_words in
           let d : width ≡ width_at ws (get_or ps (place_of ws (get_or inputs k 0)) 0) = g ∙ ap (λ (i : ℕ). payload (get_or ws (get_or ps i 0) 0)) e in
           omega arith
-
--- ── What is told ──
-
-pub spares_no : {ws ps inputs elements : List ℕ} {k : ℕ} → SparesIf ws ps inputs elements k false
-spares_no = record { told = λ e. false_true e }
-
-pub spares_yes : {ws ps inputs elements : List ℕ} {k place width : ℕ} {t u r : Bool} → place ≡ payload (get_or ws (get_or inputs k 0) 0) → width ≡ payload (get_or ws (get_or ps place 0) 0) → get_or ws (get_or inputs k 0 + 1) 0 ≡ 0x70000001 → LoneIf ws (get_or inputs k 0 + 2) width t → not t ≡ false → AloneIf ws inputs k u → not u ≡ false → MatchedIf ws elements k r → SparesIf ws ps inputs elements k r
-spares_yes {ws} {ps} {inputs} {k = k} {t = t} {u} p w o l f a g m = record { told = λ e. record { one = o; lone = subst (AreLone ws (get_or inputs k 0 + 2)) (w ∙ ap (λ (i : ℕ). payload (get_or ws (get_or ps i 0) 0)) p) (l.told (not-false t f)); alone = a.told (not-false u g); matched = m.told e } }
 
 -- ── The positions that were copied ──
 
@@ -212,5 +146,3 @@ module _ {ws ps inputs elements rest : List ℕ} {n j : ℕ} (L : Left ws ps inp
 
 pub left_end : {ws ps inputs elements rest : List ℕ} {n j : ℕ} → Left ws ps inputs elements rest n j → length inputs ≤ j → IsRest ws ps inputs elements rest n
 left_end {inputs = inputs} {j = j} L h = record { full = L.long; few = let f = L.few in let i = L.inside in omega arith; unspared = record { mask = L.mask; same = L.same ∙ ap (kept L.mask) (take_all j inputs h); spares = L.spares } }
-
-pub ruleset sparing = (rules, lone-start, lone_turn, lone_yes, lone_no, alone-start, alone-own, alone_turn, alone_yes, alone_no, matched_yes, matched_no, inside_at, inputs-inside, coefficient-there, place-word, components-there, spares_no, spares_yes, left-start, left_spared, left-room, left_turn, left_end)

@@ -11,12 +11,10 @@ fn lone_words(net: &[u32], at: usize, width: usize) -> bool
     requires { at + width ≤ length net.now }
     ensures { LoneIf net.now at width result }
 {
-    let mut i = 0;
-    while i < width {
+    for i in 0..width {
         if kind(net[at + i]) == 9 {
             return false;
         }
-        i += 1;
     }
     true
 }
@@ -28,15 +26,9 @@ fn alone(net: &[u32], inputs: &[usize], k: usize) -> bool
     ensures { AloneIf net.now inputs.now k result }
 {
     let w = net[inputs[k]];
-    let mut i = 0;
-    while i < inputs.len() {
-        if i == k {
-            i += 1;
-        } else {
-            if net[inputs[i]] == w {
-                return false;
-            }
-            i += 1;
+    for (i, at) in inputs.iter().enumerate() {
+        if i != k && net[*at] == w {
+            return false;
         }
     }
     true
@@ -49,12 +41,10 @@ fn is_matched(net: &[u32], elements: &[usize], k: usize) -> bool
     ensures { MatchedIf net.now elements.now k result }
 {
     let w = 0xA000_0000 + k as u32;
-    let mut i = 0;
-    while i < elements.len() {
-        if net[elements[i]] == w {
+    for at in elements {
+        if net[*at] == w {
             return true;
         }
-        i += 1;
     }
     false
 }
@@ -72,13 +62,7 @@ fn is_spared(net: &[u32], places: &[usize], inputs: &[usize], elements: &[usize]
     }
     let place = payload(net[at]) as usize;
     let width = payload(net[places[place]]) as usize;
-    if !lone_words(net, at + 2, width) {
-        return false;
-    }
-    if !alone(net, inputs, k) {
-        return false;
-    }
-    is_matched(net, elements, k)
+    lone_words(net, at + 2, width) && alone(net, inputs, k) && is_matched(net, elements, k)
 }
 
 // Copies the positions of the input arcs that are not spared, and tells how many.
@@ -95,14 +79,11 @@ pub fn leave_out(
     ensures { IsRest net.now places.now inputs.now elements.now rest.new result }
 {
     let mut n = 0;
-    let mut j = 0;
-    while j < inputs.len() {
-        if is_spared(net, places, inputs, elements, j) {
-            j += 1;
-        } else {
+    for j in 0..inputs.len() {
+        let spared = is_spared(net, places, inputs, elements, j);
+        if !spared {
             rest[n] = inputs[j];
             n += 1;
-            j += 1;
         }
     }
     n

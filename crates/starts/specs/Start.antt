@@ -1,12 +1,13 @@
 -- What a run starts from, as the code has it.
 -- Rests on semantics/specs/Calls, marking/specs/Marked and Known.
-use Rattle.std.specs.Prelude.{◌≡◌, List, ℕ, min, ◌≤◌, length, take}
+use Rattle.std.specs.Prelude.{◌≡◌, List, ℕ, min, ◌≤◌, length, take, Result, Ok, Err}
+use Rattle.semantics.specs.declared.refusal.Refusal.{Refusal}
+use Rattle.semantics.specs.Answer.{refusing}
 use Rattle.std.proofs.Math.Option.{none}
-use Rattle.semantics.specs.Reading.{read, refused}
+use Rattle.semantics.specs.Reading.{read}
 use Rattle.semantics.specs.Net.{Net}
 use Rattle.semantics.specs.Marking.{Entry, first_unknown, first_malformed, counts_of}
 use Rattle.semantics.specs.Calls.{start}
-use Rattle.expression.specs.declared.read.Skipped.TheVariants.{Next, Refused}
 use Rattle.net.specs.declared.index.NetIndex.{NetIndex}
 use Rattle.marking.specs.Marked.{marking_read}
 use Rattle.starts.specs.Known.{NetKnown}
@@ -23,6 +24,7 @@ pub record Started (ws buffer : List ℕ) (m : ℕ) (picks : List ℕ) (r : NetI
   pub formed : first_malformed picks ≡ none
   pub same : start ws buffer m picks ≡ read (record { net = net; counts = counts_of entries }) 0
 
-pub record IsStart (ws buffer : List ℕ) (m : ℕ) (picks : List ℕ) (r : NetIndex) (table : List ℕ) : Type 0 where
-  pub refuses : (n p : ℕ) → r.end ≡ Refused n p → start ws buffer m picks ≡ refused n p
-  pub begins : (next : ℕ) → r.end ≡ Next next → Started ws buffer m picks r table
+-- what begin answers, with the table
+abbrev pub IsStart : List ℕ → List ℕ → ℕ → List ℕ → Result NetIndex Refusal → List ℕ → Type 0
+IsStart ws buffer m picks (Ok r) table = Started ws buffer m picks r table
+IsStart ws buffer m picks (Err e) table = start ws buffer m picks ≡ refusing e

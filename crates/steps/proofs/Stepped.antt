@@ -2,16 +2,17 @@
 -- words of these counts.
 use mathlib.Core.Path.{◌≡◌, refl, sym, ap, ◌∙◌}
 use mathlib.Core.Logic.{◌⊎◌, inl, inr}
-use mathlib.Core.Bool.{true, false, not}
+use mathlib.Core.Bool.{true, false}
 use mathlib.Core.List.Memᴰ
 use mathlib.Core.List.{List, [], ◌∷◌, ◌++◌, map, Memᴰ}
 use Prim.Native.Nat.{ℕ, zero, suc, ◌+◌, ◌-◌, ◌≤◌, ◌<◌}
-use borrow.Author.Tests.{le-leb, lt-leb, eqb-true, not-true, not-false}
+use borrow.Author.Tests.{le-leb, lt-leb, eqb-true, not-false}
 use native.Mathlib.Omega.{arith}
 use lib.IntN.{ℤ}
 use lib.ListN.{length, get_or, drop}
-use Rattle.semantics.specs.declared.Fired.TheVariants.{Written, Refused as FireRefused}
-use Rattle.semantics.specs.Refusal.{most_count, over_count, over_room, most_words}
+use Rattle.std.specs.Prelude.{Ok, Err}
+use Rattle.semantics.specs.declared.refusal.Refusal.TheVariants.{OverCount, OverRoom}
+use Rattle.semantics.specs.Refusal.{most_count, most_words}
 use Rattle.semantics.specs.Lists.{Every, every}
 use Rattle.semantics.specs.Reading.{read}
 use Rattle.semantics.specs.Order.{before, Rising}
@@ -29,8 +30,8 @@ use Rattle.patch.specs.Patch.{Change, change_key, patched, old_below, new_below,
 use Rattle.patch.proofs.Patched.{begins-low, patched-words, patched-begins, patched-enough, patched-ordered, patched-size}
 use Rattle.change_lists.specs.declared.list.Listed.{Listed}
 use Rattle.changes.specs.Keys.{sort_keys, keys_from}
-use Rattle.changes.specs.Changes.{after, within, is_uneven, uneven_from, change_at, changes_from}
-use Rattle.change_lists.specs.Lists.{IsListed}
+use Rattle.changes.specs.Changes.{after, within, is_uneven, uneven_from, change_at, changes_from, Sees}
+use Rattle.change_lists.specs.Lists.{AreListed}
 use Rattle.rewriting.specs.Writes.{Writable, IsWritten}
 use Rattle.moving.specs.Moves.{Movable, IsMoved}
 use Rattle.steps.specs.Steps.{Stepping, IsStep}
@@ -139,78 +140,75 @@ module _ {ws ps ik ia ok oa ms begins : List ℕ} (q : Stepping ws ps ik ia ok o
 
 -- ── 15, 16, or the new marking ──
 
-module _ {ws ps ik ia ok oa ms begins : List ℕ} {r : Listed} {keys ats olds counts : List ℕ} (x : IsListed ws ps ik ia ok oa ms begins r keys ats olds counts) (buffer : List ℕ) where
-  over-is : (q : Stepping ws ps ik ia ok oa ms begins) → r.over ≡ not (every (within ws ps (after ws ps ik ia ok oa q.entries)) (keys_from 0 (ik ++ ok)))
-  over-is q = x.measured.over q.entries q.sees ∙ ap not (limit_same q)
+module _ {ws ps ik ia ok oa ms begins : List ℕ} (buffer : List ℕ) where
+  pub step-over : ((es : List Entry) → Sees ws ps ms begins es → every (within ws ps (after ws ps ik ia ok oa es)) (uneven_from ik ia ok oa 0) ≡ false) → IsStep ws ps ik ia ok oa ms begins buffer (Err OverCount) buffer begins
+  step-over x = record { fired = λ q. let w = sym (limit_same q) ∙ x q.entries q.sees in rw w (record { end = refl; begun = refl }) }
 
-  pub step-over : r.over ≡ true → IsStep ws ps ik ia ok oa ms begins buffer (FireRefused over_count 0) buffer begins
-  step-over t = record { fired = λ q. let w = not-true (every (within ws ps (after ws ps ik ia ok oa q.entries)) (keys_from 0 (ik ++ ok))) (sym (over-is q) ∙ t) in rw w (record { end = refl; begun = refl }) }
+module _ {ws ps ik ia ok oa ms begins : List ℕ} {r : Listed} {keys ats olds counts : List ℕ} (x : AreListed ws ps ik ia ok oa ms begins r keys ats olds counts) (buffer : List ℕ) where
+  limited : (q : Stepping ws ps ik ia ok oa ms begins) → every (within ws ps (after ws ps ik ia ok oa q.entries)) (keys_from 0 (ik ++ ok)) ≡ true
+  limited q = sym (limit_same q) ∙ x.measured.within q.entries q.sees
 
-  module _ (t : r.over ≡ false) where
-    step-limited : (q : Stepping ws ps ik ia ok oa ms begins) → every (within ws ps (after ws ps ik ia ok oa q.entries)) (keys_from 0 (ik ++ ok)) ≡ true
-    step-limited q = not-false _ (sym (over-is q) ∙ t)
+  -- the length told from what was measured
+  sized : (q : Stepping ws ps ik ia ok oa ms begins) → length (patched ms 0 (changes_from ws ps ik ia ok oa q.entries 0)) + r.old ≡ length ms + r.new
+  sized q = rw (x.measured.old q.entries q.sees, x.measured.new q.entries q.sees) (patched-size ms (changes_from ws ps ik ia ok oa q.entries 0) (step-ordered q (limited q)))
 
-    -- the length told from what was measured
-    sized : (q : Stepping ws ps ik ia ok oa ms begins) → length (patched ms 0 (changes_from ws ps ik ia ok oa q.entries 0)) + r.old ≡ length ms + r.new
-    sized q = rw (x.measured.old q.entries q.sees t, x.measured.new q.entries q.sees t) (patched-size ms (changes_from ws ps ik ia ok oa q.entries 0) (step-ordered q (step-limited q)))
+  pub step-more : Stepping ws ps ik ia ok oa ms begins → r.old ≤ length ms + r.new
+  step-more q = let s = sized q in omega arith
 
-    pub step-more : Stepping ws ps ik ia ok oa ms begins → r.old ≤ length ms + r.new
-    step-more q = let s = sized q in omega arith
-
-    -- where places begin can be moved by the rows, and so they begin in the new marking
-    pub movable : Stepping ws ps ik ia ok oa ms begins → Movable ws ps keys olds counts r.n begins
-    movable q =
-        let e = x.same q.entries q.sees t in
-        let o = x.measured.old q.entries q.sees t in
-        let n = x.measured.new q.entries q.sees t in
-        let o₁ = x.measured.old-short in
-        let n₁ = x.measured.new-short in
-        record {
-          ats = ats;
-          fits = q.moves.fits;
-          tabled = x.tabled;
-          full = q.moves.begins-full;
-          rises = rw e (changing q (step-limited q)).rises;
-          old-short = rw e (omega arith);
-          new-short = rw e (omega arith);
-          low = λ p h. rw (begun_at q p h) (begins-low q.net.places ms q.entries q.sees.next (marked q) p);
-          enough = λ p h. rw (e, begun_at q p h) (step-enough q (step-limited q) p);
-        }
-
-    step-begins : (q : Stepping ws ps ik ia ok oa ms begins) {begins' : List ℕ} → IsMoved ws ps keys olds counts r.n begins begins' → BeginsFor q.net (after ws ps ik ia ok oa q.entries) begins'
-    unfolding movable
-    step-begins q {begins'} y = record {
-      of = λ es next m c. record {
-        at = λ p h.
-            let i : p ≤ length ps = omega (arith, ap length q.placed ∙ places-length ws ps) in
-            let s = rw (x.same q.entries q.sees t) at (y.moves (movable q) p i) in
-            let b = begun_at q p i in
-            let l = step-moved q (step-limited q) es next m c p in
-            omega arith;
-      };
-    }
-
-    step-size : (q : Stepping ws ps ik ia ok oa ms begins) → length (marking_words q.net (after ws ps ik ia ok oa q.entries)) ≡ length ms + r.new - r.old
-    step-size q = let s = sized q in let l = ap length (step_words q (step-limited q)) in omega arith
-
-    pub step-long : length buffer < length ms + r.new - r.old → IsStep ws ps ik ia ok oa ms begins buffer (FireRefused over_room 0) buffer begins
-    step-long h = record { fired = λ q. rw (step-limited q, step-size q, lt-leb (length ms + r.new - r.old) (length buffer) h) (record { end = refl; begun = refl }) }
-
-    module _ (h : length ms + r.new - r.old ≤ length buffer) where
-      pub step-words-over : most_words < length ms + r.new - r.old → IsStep ws ps ik ia ok oa ms begins buffer (FireRefused over_room 0) buffer begins
-      step-words-over g = record { fired = λ q. rw (step-limited q, step-size q, le-leb (length ms + r.new - r.old) (length buffer) h, lt-leb (length ms + r.new - r.old) most_words g) (record { end = refl; begun = refl }) }
-
-      pub writable : Stepping ws ps ik ia ok oa ms begins → Writable ws ps ms keys ats olds counts r.n buffer
-      writable q =
-          let e = x.same q.entries q.sees t in
-          let s = sized q in
-          record { fits = q.moves.fits; tabled = x.tabled; ordered = rw e (step-ordered q (step-limited q)); room = rw e (omega arith) }
-
-      pub step-written : {k : ℕ} {rest begins' : List ℕ} → length ms + r.new - r.old ≤ most_words → IsMoved ws ps keys olds counts r.n begins begins' → IsWritten ws ps ms keys ats olds counts r.n buffer k rest → IsStep ws ps ik ia ok oa ms begins buffer (Written k) rest begins'
-      step-written {k} {rest} g z y = record {
-        fired = λ q.
-            let e = ap (patched ms 0) (x.same q.entries q.sees t) ∙ step_words q (step-limited q) in
-            let words : rest ≡ marking_words q.net (after ws ps ik ia ok oa q.entries) ++ drop (length (marking_words q.net (after ws ps ik ia ok oa q.entries))) buffer = y.words ∙ ap (λ (l : List ℕ). l ++ drop (length l) buffer) e in
-            let size : k ≡ length (marking_words q.net (after ws ps ik ia ok oa q.entries)) = y.size ∙ ap length e in
-            rw (step-limited q, step-size q, le-leb (length ms + r.new - r.old) (length buffer) h, le-leb (length ms + r.new - r.old) most_words g) (record { end = rw (words, size); begun = step-begins q z });
+  -- where places begin can be moved by the rows, and so they begin in the new marking
+  pub movable : Stepping ws ps ik ia ok oa ms begins → Movable ws ps keys olds counts r.n begins
+  movable q =
+      let e = x.same q.entries q.sees in
+      let o = x.measured.old q.entries q.sees in
+      let n = x.measured.new q.entries q.sees in
+      let o₁ = x.measured.old-short in
+      let n₁ = x.measured.new-short in
+      record {
+        ats = ats;
+        fits = q.moves.fits;
+        tabled = x.tabled;
+        full = q.moves.begins-full;
+        rises = rw e (changing q (limited q)).rises;
+        old-short = rw e (omega arith);
+        new-short = rw e (omega arith);
+        low = λ p h. rw (begun_at q p h) (begins-low q.net.places ms q.entries q.sees.next (marked q) p);
+        enough = λ p h. rw (e, begun_at q p h) (step-enough q (limited q) p);
       }
+
+  step-begins : (q : Stepping ws ps ik ia ok oa ms begins) {begins' : List ℕ} → IsMoved ws ps keys olds counts r.n begins begins' → BeginsFor q.net (after ws ps ik ia ok oa q.entries) begins'
+  unfolding movable
+  step-begins q {begins'} y = record {
+    of = λ es next m c. record {
+      at = λ p h.
+          let i : p ≤ length ps = omega (arith, ap length q.placed ∙ places-length ws ps) in
+          let s = rw (x.same q.entries q.sees) at (y.moves (movable q) p i) in
+          let b = begun_at q p i in
+          let l = step-moved q (limited q) es next m c p in
+          omega arith;
+    };
+  }
+
+  step-size : (q : Stepping ws ps ik ia ok oa ms begins) → length (marking_words q.net (after ws ps ik ia ok oa q.entries)) ≡ length ms + r.new - r.old
+  step-size q = let s = sized q in let l = ap length (step_words q (limited q)) in omega arith
+
+  pub step-long : length buffer < length ms + r.new - r.old → IsStep ws ps ik ia ok oa ms begins buffer (Err OverRoom) buffer begins
+  step-long h = record { fired = λ q. rw (limited q, step-size q, lt-leb (length ms + r.new - r.old) (length buffer) h) (record { end = refl; begun = refl }) }
+
+  module _ (h : length ms + r.new - r.old ≤ length buffer) where
+    pub step-words-over : most_words < length ms + r.new - r.old → IsStep ws ps ik ia ok oa ms begins buffer (Err OverRoom) buffer begins
+    step-words-over g = record { fired = λ q. rw (limited q, step-size q, le-leb (length ms + r.new - r.old) (length buffer) h, lt-leb (length ms + r.new - r.old) most_words g) (record { end = refl; begun = refl }) }
+
+    pub writable : Stepping ws ps ik ia ok oa ms begins → Writable ws ps ms keys ats olds counts r.n buffer
+    writable q =
+        let e = x.same q.entries q.sees in
+        let s = sized q in
+        record { fits = q.moves.fits; tabled = x.tabled; ordered = rw e (step-ordered q (limited q)); room = rw e (omega arith) }
+
+    pub step-written : {k : ℕ} {rest begins' : List ℕ} → length ms + r.new - r.old ≤ most_words → IsMoved ws ps keys olds counts r.n begins begins' → IsWritten ws ps ms keys ats olds counts r.n buffer k rest → IsStep ws ps ik ia ok oa ms begins buffer (Ok k) rest begins'
+    step-written {k} {rest} g z y = record {
+      fired = λ q.
+          let e = ap (patched ms 0) (x.same q.entries q.sees) ∙ step_words q (limited q) in
+          let words : rest ≡ marking_words q.net (after ws ps ik ia ok oa q.entries) ++ drop (length (marking_words q.net (after ws ps ik ia ok oa q.entries))) buffer = y.words ∙ ap (λ (l : List ℕ). l ++ drop (length l) buffer) e in
+          let size : k ≡ length (marking_words q.net (after ws ps ik ia ok oa q.entries)) = y.size ∙ ap length e in
+          rw (limited q, step-size q, le-leb (length ms + r.new - r.old) (length buffer) h, le-leb (length ms + r.new - r.old) most_words g) (record { end = rw (words, size); begun = step-begins q z });
+    }

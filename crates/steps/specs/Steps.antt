@@ -1,7 +1,8 @@
 -- A step: 15, 16, or the marking with all counts that it changes, and where its places begin.
 -- Rests on changes/specs/{Keys, Changes}, marking/specs/Marked and semantics/specs/{Enabling, Run, Calls}.
-use Rattle.std.specs.Prelude.{◌≡◌, true, cond, List, ◌++◌, ℕ, ◌≤◌, ℤ, length}
-use Rattle.semantics.specs.declared.Fired.{Fired}
+use Rattle.std.specs.Prelude.{◌≡◌, true, cond, List, ◌++◌, ℕ, ◌≤◌, ℤ, length, Result}
+use Rattle.semantics.specs.declared.refusal.Refusal.{Refusal}
+use Rattle.semantics.specs.Answer.{fired_of}
 use Rattle.semantics.specs.Refusal.{over_count}
 use Rattle.semantics.specs.Lists.{every}
 use Rattle.semantics.specs.Net.{Net}
@@ -16,8 +17,8 @@ use Rattle.changes.specs.Keys.{keys_from}
 use Rattle.changes.specs.Changes.{Moves, after, within, Sees}
 
 -- answer and buffer, as the definition of the call has them
-abbrev pub fire_end : Fired → List ℕ → FireEnd
-fire_end r buffer = record { answer = r; buffer = buffer }
+abbrev pub fire_end : Result ℕ Refusal → List ℕ → FireEnd
+fire_end r buffer = record { answer = fired_of r; buffer = buffer }
 
 -- where places begin after a firing: in the new marking, or as they did
 abbrev pub BeginsThen : Net → List ℕ → List ℕ → Firing → Type 0
@@ -25,7 +26,7 @@ BeginsThen net begins begins' (moved m) = BeginsFor net m begins'
 BeginsThen net begins begins' (stopped n) = begins' ≡ begins
 
 -- answer, buffer and beginnings after a firing
-pub record FiredTo (net : Net) (buffer begins : List ℕ) (r : Fired) (rest begins' : List ℕ) (x : Firing) : Type 0 where
+pub record FiredTo (net : Net) (buffer begins : List ℕ) (r : Result ℕ Refusal) (rest begins' : List ℕ) (x : Firing) : Type 0 where
   pub end : fire_end r rest ≡ fired_by net buffer x
   pub begun : BeginsThen net begins begins' x
 
@@ -42,5 +43,5 @@ pub record Stepping (ws ps ik ia ok oa ms begins : List ℕ) : Type 0 where
   pub proper : every (within ws ps (after ws ps ik ia ok oa entries)) (keys_from 0 (ik ++ ok)) ≡ true → Proper net (after ws ps ik ia ok oa entries)
 
 -- 15 or 16, or the new marking, and where its places begin
-pub record IsStep (ws ps ik ia ok oa ms begins : List ℕ) (buffer : List ℕ) (r : Fired) (rest begins' : List ℕ) : Type 0 where
+pub record IsStep (ws ps ik ia ok oa ms begins : List ℕ) (buffer : List ℕ) (r : Result ℕ Refusal) (rest begins' : List ℕ) : Type 0 where
   pub fired : (q : Stepping ws ps ik ia ok oa ms begins) → FiredTo q.net buffer begins r rest begins' (roomed q.net (length buffer) (cond (every (within ws ps (after ws ps ik ia ok oa q.entries)) (keys_from 0 (ik ++ ok))) (moved (after ws ps ik ia ok oa q.entries)) (stopped over_count)))

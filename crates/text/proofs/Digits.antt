@@ -29,12 +29,8 @@ module _ {b c : List ℕ} {at n : ℕ} where
 
 -- ── Values ──
 
--- the two halves of the fourteen bits
-module _ (u : ℕ) where
-  pub value_natural : u < 8192 → signed_decimal (signed u) ≡ decimal u
-  value_natural h = rw (lt-ltb u 8192 h) refl
-
-  pub value_negative : 8192 ≤ u → u < 16384 → signed_decimal (signed u) ≡ 45 ∷ decimal (16384 - u)
-  value_negative h g =
-      let e : suc (16383 - u) ≡ 16384 - u = omega arith in
-      rw (le-ltb u 8192 h, ← e) refl
+-- the upper half of the fourteen bits
+pub value_negative : (u : ℕ) → 8192 ≤ u → u < 16384 → signed_decimal (signed u) ≡ 45 ∷ decimal (16384 - u)
+value_negative u h g =
+    let e : suc (16383 - u) ≡ 16384 - u = omega arith in
+    rw (le-ltb u 8192 h, ← e) refl

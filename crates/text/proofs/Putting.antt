@@ -5,7 +5,7 @@ use mathlib.Core.Path.{◌≡◌, refl, sym, ap, ◌∙◌}
 use mathlib.Core.Logic.{◌⊎◌, inl, inr}
 use mathlib.Core.Bool.{true, false}
 use mathlib.Core.List.{List, [], ◌∷◌, ◌++◌}
-use Prim.Native.Nat.{ℕ, suc, ◌+◌, ◌-◌, ◌≤◌, ◌<◌, min}
+use Prim.Native.Nat.{ℕ, suc, ◌+◌, ◌-◌, ◌≤◌, min}
 use native.Mathlib.Omega.{arith}
 use borrow.Author.Tests.{leb-true, leb-false}
 use lib.Dec.{leb}
@@ -60,12 +60,6 @@ module _ {b : List ℕ} {at : ℕ} where
         bytes = q.bytes ∙ ap (λ (k : ℕ). sets c k t) e ∙ ap (λ (m : List ℕ). sets m (at + min (length s) (length b - at)) t) p.bytes ∙ sets-from b at s t;
         ends = omega arith;
       }
-
-  pub put_stored : {x : ℕ} → at < length b → Put b at (x ∷ []) (set b at x) (at + 1)
-  put_stored h = record { bytes = refl; ends = omega arith }
-
-  pub put_lost : {x : ℕ} → length b ≤ at → Put b at (x ∷ []) b at
-  put_lost {x} h = record { bytes = sym (set_out b at x h); ends = omega arith }
 
 -- ── Text in parts ──
 

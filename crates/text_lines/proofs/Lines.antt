@@ -1,12 +1,12 @@
 -- Lines of values: what is left of a line after a field, and where the line ends.
 -- Rests on Putting.
-use mathlib.Core.Path.{◌≡◌, refl}
+use mathlib.Core.Path.{subst}
 use mathlib.Core.List.{List, [], ◌∷◌, map}
-use Prim.Native.Nat.{ℕ, ◌+◌, ◌%◌, ◌≤◌, ◌<◌}
+use Prim.Native.Nat.{ℕ, ◌+◌, ◌-◌, ◌%◌, ◌≤◌, ◌<◌}
 use native.Mathlib.Numerals.{add-one}
 use native.Mathlib.Omega.{arith}
-use lib.ListN.{length, get_or, drop, drop_of_length-le}
-use lib.Seq.{drop-cons}
+use lib.ListN.{length, get_or, take, drop, drop_of_length-le}
+use lib.Seq.{drop-cons, take_all}
 use Rattle.semantics.specs.Word.{signed}
 use Rattle.semantics.specs.Print.{signed_decimal, after_first, fields}
 use Rattle.text.specs.Put.{Put}
@@ -28,12 +28,12 @@ module _ {b t c : List ℕ} {at mid i : ℕ} (row : List ℕ) where
   later-ends h l p = left_last (rw (drop_of_length-le row h) at l) p
 
 module _ {b c : List ℕ} {at mid : ℕ} where
-  pub row-none : (row : List ℕ) → length row ≡ 0 → Put b at (10 ∷ []) c mid → Put b at (row_text row) c mid
+  pub row-none : (row : List ℕ) → length row < 1 → Put b at (10 ∷ []) c mid → Put b at (row_text row) c mid
   unfolding fields
   row-none [] h p = p
   row-none (w ∷ ws) h p = absurd (omega arith)
 
-  pub row-some : {d : List ℕ} {end : ℕ} (row : List ℕ) → (length row ≡ 0 → ⊥) → Put b at (signed_decimal (signed (get_or row 0 0 % 16384))) c mid → Put c mid (later_text row 1) d end → Put b at (row_text row) d end
+  pub row-some : {d : List ℕ} {end : ℕ} (row : List ℕ) → 1 ≤ length row → Put b at (signed_decimal (signed (get_or row 0 0 % 16384))) c mid → Put c mid (later_text (take (length row - 1) (drop 1 row)) 0) d end → Put b at (row_text row) d end
   unfolding fields
-  row-some [] h p q = absurd (h refl)
-  row-some (w ∷ ws) h p q = put_then p q
+  row-some {d} {end} [] h p q = absurd (omega arith)
+  row-some {d} {end} (w ∷ ws) h p q = put_then p (subst (λ (l : List ℕ). Put c mid (later_text l 0) d end) (take_all _ ws (omega arith)) q)

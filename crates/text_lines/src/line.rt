@@ -1,5 +1,5 @@
 // Lines: fields with one space between them, and a line feed.
-ghost use Rattle.std.specs.Prelude.{◌∷◌, [], map, ◌%◌, drop};
+ghost use Rattle.std.specs.Prelude.{◌∷◌, [], map, ◌%◌};
 ghost use Rattle.semantics.specs.Word.{signed};
 ghost use Rattle.semantics.specs.Print.{decimal, refused_text, after_first, line, bad_input, fields};
 ghost use Rattle.text.specs.Put.{Put};
@@ -30,8 +30,7 @@ pub fn put_numbers(out: &mut [u8], at: usize, a: usize, b: usize, c: usize) -> u
 pub fn put_bad_input(out: &mut [u8], at: usize, number: usize, position: usize) -> usize
     ensures { Put out.old at (bad_input number position) out.new result }
 {
-    let word = b"refused";
-    let first = put_bytes(out, at, word);
+    let first = put_bytes(out, at, b"refused");
     let second = put_next(out, first, number);
     let third = put_next(out, second, position);
     put_byte(out, third, b'\n')
@@ -41,23 +40,20 @@ pub fn put_bad_input(out: &mut [u8], at: usize, number: usize, position: usize) 
 pub fn put_withheld(out: &mut [u8], at: usize, transition: usize, number: usize) -> usize
     ensures { Put out.old at (line (decimal transition ∷ refused_text ∷ decimal number ∷ [])) out.new result }
 {
-    let word = b" refused";
     let first = put_decimal(out, at, transition);
-    let second = put_bytes(out, first, word);
+    let second = put_bytes(out, first, b" refused");
     let third = put_next(out, second, number);
     put_byte(out, third, b'\n')
 }
 
-// The values of VALUE words from the second one on, and the line's end.
-fn put_later(out: &mut [u8], at: usize, row: &[u32]) -> usize
-    ensures { Put out.old at (after_first (fields (map (λ w. signed (w % 16384)) (drop 1 row.now)))) out.new result }
+// The values of VALUE words behind the first one, and the line's end.
+fn put_later(out: &mut [u8], at: usize, later: &[u32]) -> usize
+    ensures { Put out.old at (after_first (fields (map (λ w. signed (w % 16384)) later.now))) out.new result }
 {
     let mut next = at;
-    let mut i = 1;
-    while i < row.len() {
+    for w in later {
         next = put_byte(out, next, b' ');
-        next = put_value(out, next, row[i]);
-        i += 1;
+        next = put_value(out, next, *w);
     }
     put_byte(out, next, b'\n')
 }
@@ -66,9 +62,9 @@ fn put_later(out: &mut [u8], at: usize, row: &[u32]) -> usize
 pub fn put_row(out: &mut [u8], at: usize, row: &[u32]) -> usize
     ensures { Put out.old at (row_text row.now) out.new result }
 {
-    if row.len() == 0 {
+    let [first, later @ ..] = row else {
         return put_byte(out, at, b'\n');
-    }
-    let next = put_value(out, at, row[0]);
-    put_later(out, next, row)
+    };
+    let next = put_value(out, at, *first);
+    put_later(out, next, later)
 }

@@ -1,4 +1,3 @@
 pub mod Slots
-pub mod Saving
 pub mod Binding
 pub mod Ranging

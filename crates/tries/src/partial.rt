@@ -16,10 +16,8 @@ pub fn save(slots: &[u32], saved: &mut [u32; 8])
     requires { (length slots.now ≤ 8) × (length saved.old ≡ 8) }
     ensures { IsSaved slots.now saved.new }
 {
-    let mut n = 0;
-    while n < slots.len() {
+    for n in 0..slots.len() {
         saved[n] = slots[n];
-        n += 1;
     }
 }
 
@@ -29,13 +27,11 @@ pub fn restore(slots: &mut [u32], saved: &[u32; 8])
     ensures { slots.new ≡ take (length slots.old) saved.now }
 {
     let many = at_most(8, slots.len());
-    let mut i = 0;
-    while i < many {
+    for i in 0..many {
         let w = saved[i];
         if slots[i] != w {
             slots[i] = w;
         }
-        i += 1;
     }
 }
 

@@ -1,15 +1,15 @@
--- What a test on an i32 says of the number, and what a cast and `!` make of it. The machine reads a parameter z back from its bits, as
--- to_z w32 (of_z w32 z). `negsuc n` is -(n + 1), and `!` takes it to n, its mag.
-use mathlib.Core.Path.{◌≡◌, refl, sym, ap, ◌∙◌}
+-- What a test on an i32 says of the number, and what a cast makes of it. The machine reads a parameter z back from its bits, as
+-- to_z w32 (of_z w32 z).
+use mathlib.Core.Path.{◌≡◌, refl, sym, ◌∙◌}
 use mathlib.Core.Bool.{Bool, true, false}
-use Prim.Native.Nat.{ℕ, suc, ◌-◌, ◌^◌, ◌<◌}
+use Prim.Native.Nat.{suc, ◌-◌, ◌^◌, ◌<◌}
 use native.Mathlib.Omega.{arith}
 use lib.Dec.{eqb}
 use lib.IntN.{ℤ, pos, negsuc}
 use lib.Signed.{mag, lt_z}
 use mir.Syntax.{w32, w64}
 use mir.Val.{SFits, of_z, to_z}
-use mir.Facts.{to_z-of_z, to_z_pos, sfits_widen}
+use mir.Facts.{to_z-of_z, sfits_widen}
 use borrow.Author.Rules.{sfits_of}
 use borrow.Author.Tests.{ltb-true, eq-eqb, ne_eqb, eqb-true, eqb-false}
 use Rattle.semantics.specs.Order.{same_integer}
@@ -43,18 +43,12 @@ module _ {z : ℤ} (f : SFits w32 z) where
   pub positive : lt_z (pos 0) (to_z w32 (of_z w32 z)) ≡ true → 0 < mag z
   positive e = (over_zero z (simp (to_z-of_z f) at e)).1
 
-  -- `z as u32` where z is at least 0, and where it is above 0; `!z as u32` where z is below 0
+  -- `z as u32` where z is at least 0, and where it is above 0
   pub read_natural : lt_z (to_z w32 (of_z w32 z)) (pos 0) ≡ false → to_z w32 (of_z w32 z) ≡ pos (mag z)
   read_natural e = to_z-of_z f ∙ natural e
 
   pub read_positive : lt_z (pos 0) (to_z w32 (of_z w32 z)) ≡ true → to_z w32 (of_z w32 z) ≡ pos (mag z)
   read_positive e = to_z-of_z f ∙ (over_zero z (simp (to_z-of_z f) at e)).0
-
-  pub read-not : lt_z (to_z w32 (of_z w32 z)) (pos 0) ≡ true → to_z w32 (2 ^ 32 - 1 - of_z w32 z) ≡ pos (mag z)
-  read-not e = ap (λ (n : ℕ). to_z w32 n) bits ∙ to_z_pos w32 f.sfits
-    where
-      bits : 2 ^ 32 - 1 - of_z w32 z ≡ mag z
-      bits = ap (λ (y : ℤ). 2 ^ 32 - 1 - of_z w32 y) (negative e) ∙ omega (arith, f.sfits)
 
   -- `z as i64`
   pub read_wide : to_z w64 (of_z w64 z) ≡ z

@@ -5,5 +5,5 @@ ghost use Rattle.std.specs.Prelude.{◌≡◌, min};
 pub fn at_most(most: usize, n: usize) -> usize
     ensures { result ≡ min n most }
 {
-    if n < most { n } else { most }
+    n.min(most)
 }

@@ -5,8 +5,5 @@ use Rattle.arcs.proofs.flow.bound_digit.Goals as goal
 pub returns-then-w-ne196608 : goal.returns-then-w-ne196608
 returns-then-w-ne196608 c = search components
 
-pub digit_of-requires : goal.digit_of-requires
-digit_of-requires c = search components
-
 pub returns : goal.returns
 returns c = search components

@@ -1,10 +1,6 @@
 -- `arrivals::step::parts_at` meets its contract: the loop keeps `Parting`.
-use Prim.Native.Nat.{◌-◌}
 use Rattle.arrivals.proofs.Parting.{Parting}
 use Rattle.arrivals.proofs.step.parts_at.Given as goal
 
 abbrev pub invariant-loop-i : goal.invariant-loop-i
 invariant-loop-i l = Parting l.net l.variables l.at l.n l.i l.next l.parts
-
-abbrev pub decreases-loop-i : goal.decreases-loop-i
-decreases-loop-i l = l.n - l.i

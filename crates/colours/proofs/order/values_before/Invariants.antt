@@ -1,10 +1,6 @@
--- `colours::order::values_before` meets its contract: the loop of `Comparing` over words and words.
-use Prim.Native.Nat.{◌-◌}
+-- `colours::order::values_before` meets its contract: the loop of `Comparing`.
 use Rattle.colours.proofs.Comparing.{WordsLeft}
 use Rattle.colours.proofs.order.values_before.Given as goal
 
 abbrev pub invariant-loop-i : goal.invariant-loop-i
 invariant-loop-i l = WordsLeft l.words l.n l.a l.b l.i
-
-abbrev pub decreases-loop-i : goal.decreases-loop-i
-decreases-loop-i l = l.n - l.i

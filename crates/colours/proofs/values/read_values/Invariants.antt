@@ -1,10 +1,6 @@
 -- `colours::values::read_values` meets its contract: the loop of `Valuing`.
-use Prim.Native.Nat.{◌-◌}
 use Rattle.colours.proofs.Valuing.{Passing}
 use Rattle.colours.proofs.values.read_values.Given as goal
 
 abbrev pub invariant-loop-i : goal.invariant-loop-i
-invariant-loop-i l = Passing l.words l.net l.n l.from l.at l.i l.next
-
-abbrev pub decreases-loop-i : goal.decreases-loop-i
-decreases-loop-i l = l.n - l.i
+invariant-loop-i l = Passing l.words l.net l.n l.from l.at l.i

@@ -1,7 +1,6 @@
 -- `counts::find::floor` meets its contract: the bracket of `Ranked` is halved until it holds one entry.
-use Prim.Native.Nat.{◌+◌, ◌*◌, ◌-◌, ◌/◌, ◌≤◌}
+use Prim.Native.Nat.{◌+◌, ◌-◌, ◌/◌}
 use native.Mathlib.Omega.{arith}
-use lib.ListN.{length}
 use Rattle.counts.proofs.Ranked.{bracket_start, bracket_up, bracket_down, bracket_end, middle_room}
 use Rattle.counts.proofs.find.floor.Goals as goal
 
@@ -24,39 +23,13 @@ pub returns : goal.returns
 returns c = bracket_end c.loop-high.invariant c.loop-high-test.false
 
 pub overflow_mul-mid : goal.overflow_mul-mid
-overflow_mul-mid c =
-    let inside : c.args.from + (c.loop-high.low + (c.loop-high.high - c.loop-high.low) / 2) * (c.args.n + 1) + (c.args.n + 1) ≤ length c.args.words.now = middle_room c.loop-high.invariant c.loop-high-test.true c.requires.n_in_bounds in
-    omega (arith, inside)
+overflow_mul-mid c = omega (arith, middle_room c.loop-high.invariant c.loop-high-test.true c.requires.n_in_bounds)
 
 pub overflow_add-from : goal.overflow_add-from
-overflow_add-from c =
-    let inside : c.args.from + (c.loop-high.low + (c.loop-high.high - c.loop-high.low) / 2) * (c.args.n + 1) + (c.args.n + 1) ≤ length c.args.words.now = middle_room c.loop-high.invariant c.loop-high-test.true c.requires.n_in_bounds in
-    omega (arith, inside)
+overflow_add-from c = omega (arith, middle_room c.loop-high.invariant c.loop-high-test.true c.requires.n_in_bounds)
 
 pub overflow_add-from-in-loop-high : goal.overflow_add-from-in-loop-high
-overflow_add-from-in-loop-high c =
-    let inside : c.args.from + (c.loop-high.low + (c.loop-high.high - c.loop-high.low) / 2) * (c.args.n + 1) + (c.args.n + 1) ≤ length c.args.words.now = middle_room c.loop-high.invariant c.loop-high-test.true c.requires.n_in_bounds in
-    omega (arith, inside)
+overflow_add-from-in-loop-high c = omega (arith, middle_room c.loop-high.invariant c.loop-high-test.true c.requires.n_in_bounds)
 
 pub code_at-requires : goal.code_at-requires
-code_at-requires c =
-    let inside : c.args.from + (c.loop-high.low + (c.loop-high.high - c.loop-high.low) / 2) * (c.args.n + 1) + (c.args.n + 1) ≤ length c.args.words.now = middle_room c.loop-high.invariant c.loop-high-test.true c.requires.n_in_bounds in
-    omega (arith, inside)
-
-pub overflow_add-size : goal.overflow_add-size
-overflow_add-size c = omega arith
-
-pub overflow_sub-high : goal.overflow_sub-high
-overflow_sub-high c = omega arith
-
-pub overflow_sub-mid : goal.overflow_sub-mid
-overflow_sub-mid c = omega arith
-
-pub overflow_add-mid : goal.overflow_add-mid
-overflow_add-mid c = omega arith
-
-pub loop-high-smaller-then-code-code_at : goal.loop-high-smaller-then-code-code_at
-loop-high-smaller-then-code-code_at c = omega arith
-
-pub loop-high-smaller : goal.loop-high-smaller
-loop-high-smaller c = omega arith
+code_at-requires c = omega (arith, middle_room c.loop-high.invariant c.loop-high-test.true c.requires.n_in_bounds)

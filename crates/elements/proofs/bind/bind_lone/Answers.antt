@@ -2,8 +2,5 @@
 use Rattle.elements.proofs.Binding.{binding}
 use Rattle.elements.proofs.bind.bind_lone.Goals as goal
 
-pub returns-in-Word : goal.returns-in-Word
-returns-in-Word c = search binding
-
-pub returns-in-Refused : goal.returns-in-Refused
-returns-in-Refused c = search binding
+pub returns-in_default : goal.returns-in_default
+returns-in_default c = search binding

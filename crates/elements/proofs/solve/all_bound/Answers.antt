@@ -1,12 +1,7 @@
 -- `elements::solve::all_bound` meets its contract: the words ahead have only bound variables where all words have.
-use mathlib.Core.Path.{refl}
-use native.Mathlib.Omega.{arith}
 use borrow.Author.Tests.{not-true, not-false}
 use Rattle.elements.proofs.Solving.{solving}
 use Rattle.elements.proofs.solve.all_bound.Goals as goal
-
-pub loop-at-init : goal.loop-at-init
-loop-at-init c = refl
 
 pub returns-then-not-passes : goal.returns-then-not-passes
 returns-then-not-passes c = search (solving, not-true)
@@ -16,6 +11,3 @@ loop-at-preserved c = search (solving, not-false)
 
 pub returns : goal.returns
 returns c = search solving
-
-pub loop-at-smaller : goal.loop-at-smaller
-loop-at-smaller c = omega arith

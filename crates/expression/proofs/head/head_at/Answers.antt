@@ -11,14 +11,5 @@ returns-then-at-ge-MOST_WORDS c = search heads
 pub returns-then-left-eq0 : goal.returns-then-left-eq0
 returns-then-left-eq0 c = search heads
 
-pub offset_bounds-words-at : goal.offset_bounds-words-at
-offset_bounds-words-at c = search heads
-
-pub bounds-words-at : goal.bounds-words-at
-bounds-words-at c = search heads
-
-pub head_of-requires : goal.head_of-requires
-head_of-requires c = search heads
-
 pub returns : goal.returns
 returns c = search heads

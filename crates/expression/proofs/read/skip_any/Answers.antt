@@ -2,8 +2,8 @@
 use Rattle.expression.proofs.Skipping.{skipping}
 use Rattle.expression.proofs.read.skip_any.Goals as goal
 
-pub returns-in-To : goal.returns-in-To
-returns-in-To c = search skipping
+pub returns-in_err-next : goal.returns-in_err-next
+returns-in_err-next c = search skipping
 
-pub returns-in-Refused : goal.returns-in-Refused
-returns-in-Refused c = search skipping
+pub returns : goal.returns
+returns c = search skipping

@@ -1,6 +1,6 @@
 -- `gimletlemon::runs::gimletlemon_run` meets its contract: what run answers is told, and the buffers are as run leaves them.
 use mathlib.Core.Path.{ap}
-use Rattle.semantics.specs.declared.Outcome.{Outcome}
+use Rattle.semantics.specs.Answer.{Outcome}
 use Rattle.semantics.specs.Calls.{RunEnd}
 use Rattle.answers.specs.Told.{run_refusal}
 use Rattle.gimletlemon.proofs.Telling.{passed_on}

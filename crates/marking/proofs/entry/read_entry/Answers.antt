@@ -1,67 +1,19 @@
--- `marking::entry::read_entry` meets its contract: the rules of `Entries`, one for each arm.
-use mathlib.Core.Bool.{not}
-use mathlib.Core.Path.{ap}
-use Rattle.net.proofs.Placed.{place_inside}
-use Rattle.marking.proofs.Entries.{token_in_lem, entering}
-use native.Mathlib.Omega.{arith}
+-- `marking::entry::read_entry` meets its contract: the rules of `Entries`, one for each return.
+use Rattle.std.specs.Prelude.{Ok, Err}
+use Rattle.std.proofs.lemmas.Result.{err_from_is_err_and}
+use Rattle.marking.proofs.Entries.{entry_refused, entry_unfit, entry_told}
 use Rattle.marking.proofs.entry.read_entry.Goals as goal
 
+pub returns-in_err-p : goal.returns-in_err-p
+returns-in_err-p c = let p = err_from_is_err_and c.from_residual.result c.from_residual.ensures.1 in rw (p.1, p.2) (entry_refused _ _ _ _ c.in_err-p.ensures)
+
 pub returns-then-not-fits_token : goal.returns-then-not-fits_token
-returns-then-not-fits_token c = search entering
+returns-then-not-fits_token c = entry_unfit _ _ _ _ c.in_ok-p.ensures c.if-not-fits_token.ensures
 
-pub returns-in-Next : goal.returns-in-Next
-returns-in-Next c = search entering
+pub returns-in_err-next : goal.returns-in_err-next
+returns-in_err-next c =
+    let p = err_from_is_err_and c.from_residual-in_err-next.result c.from_residual-in_err-next.ensures.1 in
+    rw (p.1, p.2) (entry_told _ _ _ _ c.in_ok-p.ensures c.if-not-fits_token.ensures (Err c.in_err-next.field-0.0) c.payload-n.ensures.0 c.in_err-next.ensures)
 
-pub returns-in-Refused-read_values : goal.returns-in-Refused-read_values
-returns-in-Refused-read_values c = search entering
-
-pub returns-in-Refused : goal.returns-in-Refused
-returns-in-Refused c = search entering
-
-pub take-requires : goal.take-requires
-take-requires c = search entering
-
-pub enum_known-p : goal.enum_known-p
-enum_known-p c = search entering
-
-pub fits_token-requires : goal.fits_token-requires
-fits_token-requires c = search entering
-
-pub overflow_cast-place : goal.overflow_cast-place
-overflow_cast-place c = omega arith
-
-pub offset_bounds-places-place : goal.offset_bounds-places-place
-offset_bounds-places-place c = search entering
-
-pub bounds-places-place : goal.bounds-places-place
-bounds-places-place c = search entering
-
-pub offset_bounds-net-from : goal.offset_bounds-net-from
-offset_bounds-net-from c = search entering
-
-pub bounds-net-from : goal.bounds-net-from
-bounds-net-from c = search entering
-
-pub payload-n-requires : goal.payload-n-requires
-payload-n-requires c = search entering
-
-pub overflow_cast-n : goal.overflow_cast-n
-overflow_cast-n c = omega arith
-
-pub overflow_add-at : goal.overflow_add-at
-overflow_add-at c = search entering
-
-pub overflow_add-from : goal.overflow_add-from
-overflow_add-from c = omega (arith, place_inside c.requires (token_in_lem c.in-Word.p c.fits_token.ensures (ap not c.if-not-fits_token.false)))
-
-pub read_values-requires : goal.read_values-requires
-read_values-requires c = search entering
-
-pub enum_known-next : goal.enum_known-next
-enum_known-next c = search entering
-
-pub enum_known-m : goal.enum_known-m
-enum_known-m c = search entering
-
-pub enum_known-m2 : goal.enum_known-m2
-enum_known-m2 c = search entering
+pub returns : goal.returns
+returns c = entry_told _ _ _ _ c.in_ok-p.ensures c.if-not-fits_token.ensures (Ok c.in_ok-next.next) c.payload-n.ensures.0 c.in_ok-next.ensures

@@ -1,6 +1,5 @@
 -- `marking::index::rises` meets its contract: the places decide, or the colours where they are the same.
 use Rattle.marking.proofs.Rising.{ordering}
-use native.Mathlib.Omega.{arith}
 use Rattle.marking.proofs.index.rises.Goals as goal
 
 pub returns-then-at-eq0 : goal.returns-then-at-eq0
@@ -14,9 +13,3 @@ returns-then-p-place c = search ordering
 
 pub returns : goal.returns
 returns c = search ordering
-
-pub overflow_add-last : goal.overflow_add-last
-overflow_add-last c = omega arith
-
-pub overflow_add-at : goal.overflow_add-at
-overflow_add-at c = omega arith

@@ -1,23 +1,15 @@
--- `marking::pick::first_unknown` meets its contract: the loop of `First`.
-use mathlib.Core.Path.{sym, ◌∙◌}
-use Rattle.marking.proofs.First.{looking_start, looking_found, looking_turn, looking_end}
-use native.Mathlib.Omega.{arith}
+-- `marking::pick::first_unknown` meets its contract: `position` is `first_that`.
+use mathlib.Core.Bool.{◌&&◌}
+use mathlib.Core.Path.{ap, ◌∙◌}
+use lib.Dec.{leb}
+use Rattle.std.proofs.Common.{rules, tests}
+use Rattle.std.proofs.lemmas.Iterator.{YieldsList-from_slice}
+use Rattle.std.proofs.lemmas.Iterator.Search.{position_from_yields_List}
+use Rattle.semantics.specs.Answer.{option_of}
+use Rattle.semantics.specs.Marking.{is_pick, pick_transition}
+use Rattle.marking.proofs.First.{first_lem}
 use Rattle.marking.proofs.pick.first_unknown.Goals as goal
 
-pub loop-i-init : goal.loop-i-init
-loop-i-init c = looking_start _ _
-
-pub returns-then-is_unknown : goal.returns-then-is_unknown
-returns-then-is_unknown c = looking_found c.loop-i.invariant c.loop-i-test.true (sym c.is_unknown.ensures ∙ c.if-is_unknown.true)
-
-pub loop-i-preserved : goal.loop-i-preserved
-loop-i-preserved c = looking_turn c.loop-i.invariant c.loop-i-test.true (sym c.is_unknown.ensures ∙ c.if-is_unknown.false)
-
 pub returns : goal.returns
-returns c = looking_end c.loop-i.invariant c.loop-i-test.false
-
-pub overflow_add-i : goal.overflow_add-i
-overflow_add-i c = omega arith
-
-pub loop-i-smaller : goal.loop-i-smaller
-loop-i-smaller c = omega arith
+returns c =
+    ap option_of (position_from_yields_List (λ w. is_pick w && leb c.args.transitions (pick_transition w)) _ _ _ c.position.ensures.ran (YieldsList-from_slice c.args.picks.now cc) (λ x b q k. search (rules, tests))) ∙ first_lem _ _

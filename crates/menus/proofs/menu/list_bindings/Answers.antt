@@ -28,11 +28,11 @@ search_plan-end-requires c =
 
 pub returns-then-end : goal.returns-then-end
 unfolding rows_of
-returns-then-end c = let W = c.requires.world in record { listed = listed_10 W c.args.budget c.args.menu.now (ended_most c.most_rows-most.ensures c.search_plan-end.ensures) c.if-end.true c.clear.ensures c.search_plan-end.auto.menu }
+returns-then-end c = let W = c.requires.world in record { listed = listed_10 W c.args.budget c.args.menu.now (ended_most c.most_rows-most.ensures c.search_plan-end.ensures) c.if-end.true (c.fill.ensures.after (λ y e. e)) c.search_plan-end.auto.menu }
 
 pub returns-then-end-2 : goal.returns-then-end-2
 unfolding rows_of
-returns-then-end-2 c = let W = c.requires.world in record { listed = listed_11 W c.args.budget c.args.menu.now (ended_most c.most_rows-most.ensures c.search_plan-end.ensures) c.if-end.false c.if-end-2.true c.clear-then-end-2.ensures c.search_plan-end.auto.menu }
+returns-then-end-2 c = let W = c.requires.world in record { listed = listed_11 W c.args.budget c.args.menu.now (ended_most c.most_rows-most.ensures c.search_plan-end.ensures) c.if-end.false c.if-end-2.true (c.fill-then-end-2.ensures.after (λ y e. e)) c.search_plan-end.auto.menu }
 
 pub overflow_cast-result : goal.overflow_cast-result
 overflow_cast-result c = let f = (most_roomy (length c.args.menu.now) c.args.variables).few in let w = c.search_plan-end.ensures.within in let e = c.most_rows-most.ensures in search rules

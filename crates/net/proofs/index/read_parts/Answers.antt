@@ -1,64 +1,78 @@
 -- `net::index::read_parts` meets its contract: its word and its parts, one after the other, by the rules of `Transitions`; in the table
 -- each kind of part is written behind the one before it.
+use mathlib.Core.Path.{refl, sym}
 use native.Mathlib.Omega.{arith}
-use borrow.Author.Rules.{rules}
-use Rattle.net.proofs.Tables.{up_to-same, before_four, inputs-stay, outputs-stay, guard_stays, plan_stays}
-use Rattle.net.proofs.Transitions.{transitions, few-parts, parts-end}
+use Rattle.std.proofs.lemmas.Result.{err_from_is_err_and}
+use Rattle.net.proofs.Tables.{alike_still, inputs-stay, outputs-stay, guard_stays, plan_stays}
+use Rattle.net.proofs.Transitions.{transition-refused, few-parts, transition-left, ranges_go, ranges_stop, inputs_go, inputs_stop, outputs_go, outputs_stop, guard_goes, guard_stops, plan_goes, plan_stops, unread}
 use Rattle.net.proofs.index.read_parts.Goals as goal
 
-pub skip_several-ins_end-requires : goal.skip_several-ins_end-requires
-skip_several-ins_end-requires c =
-    let f = few-parts c.take-head.ensures c.in-Word.is in
-    omega arith
+pub skip_several-requires-4 : goal.skip_several-requires-4
+skip_several-requires-4 c =
+    let f = few-parts c.take.ensures c.in_ok-take.was c.parts_of-t.ensures in
+    omega (arith, f.inputs, f.outputs, f.conjuncts, f.elements)
 
-pub skip_several-outs_end-requires : goal.skip_several-outs_end-requires
-skip_several-outs_end-requires c =
-    let f = few-parts c.take-head.ensures c.in-Word.is in
-    omega arith
+pub returns-in_err-take : goal.returns-in_err-take
+returns-in_err-take c =
+    let p = err_from_is_err_and c.from_residual.result c.from_residual.ensures.1 in
+    rw (p.1, p.2) (unread (transition-refused c.take.ensures _ c.in_err-take.was) (record { same = refl }))
 
-pub skip_several-guard_end-requires : goal.skip_several-guard_end-requires
-skip_several-guard_end-requires c =
-    let f = few-parts c.take-head.ensures c.in-Word.is in
-    omega arith
+pub returns-in_err-ranges_end : goal.returns-in_err-ranges_end
+returns-in_err-ranges_end c =
+    let p = err_from_is_err_and c.from_residual-in_err-ranges_end.result c.from_residual-in_err-ranges_end.ensures.1 in
+    let s0 = transition-left c.take.ensures c.in_ok-take.was c.args.widths.now c.parts_of-t.ensures in
+    rw (p.1, p.2) (unread (ranges_stop _ _ _ _ s0 c.skip_ranges.ensures c.in_err-ranges_end.was) (record { same = refl }))
 
-pub skip_several-end-requires : goal.skip_several-end-requires
-skip_several-end-requires c =
-    let f = few-parts c.take-head.ensures c.in-Word.is in
-    omega arith
+pub returns-in_err-ins_end : goal.returns-in_err-ins_end
+returns-in_err-ins_end c =
+    let p = err_from_is_err_and c.from_residual-in_err-ins_end.result c.from_residual-in_err-ins_end.ensures.1 in
+    let s0 = transition-left c.take.ensures c.in_ok-take.was c.args.widths.now c.parts_of-t.ensures in
+    let s1 = ranges_go _ _ _ _ s0 c.skip_ranges.ensures c.in_ok-ranges_end.was in
+    rw (p.1, p.2) (unread (inputs_stop _ _ _ _ _ s1 c.skip_several.ensures.same c.in_err-ins_end.was) c.skip_several.ensures.before)
 
-pub overflow_add-base-3 : goal.overflow_add-base-3
-overflow_add-base-3 c =
-    let f = c.well_formed.1.1.0 in
-    let p = c.requires in
-    search rules
+pub returns-in_err-outs_end : goal.returns-in_err-outs_end
+returns-in_err-outs_end c =
+    let p = err_from_is_err_and c.from_residual-in_err-outs_end.result c.from_residual-in_err-outs_end.ensures.1 in
+    let s0 = transition-left c.take.ensures c.in_ok-take.was c.args.widths.now c.parts_of-t.ensures in
+    let s1 = ranges_go _ _ _ _ s0 c.skip_ranges.ensures c.in_ok-ranges_end.was in
+    let s2 = inputs_go _ _ _ _ _ s1 c.skip_several.ensures.same c.in_ok-ins_end.was in
+    rw (p.1, p.2) (unread (outputs_stop _ _ _ _ _ _ s2 c.skip_several-2.ensures.same c.in_err-outs_end.was) (alike_still 8 c.skip_several.ensures.before c.skip_several-2.ensures.before))
+
+pub returns-in_err-guard_end : goal.returns-in_err-guard_end
+returns-in_err-guard_end c =
+    let p = err_from_is_err_and c.from_residual-in_err-guard_end.result c.from_residual-in_err-guard_end.ensures.1 in
+    let s0 = transition-left c.take.ensures c.in_ok-take.was c.args.widths.now c.parts_of-t.ensures in
+    let s1 = ranges_go _ _ _ _ s0 c.skip_ranges.ensures c.in_ok-ranges_end.was in
+    let s2 = inputs_go _ _ _ _ _ s1 c.skip_several.ensures.same c.in_ok-ins_end.was in
+    let s3 = outputs_go _ _ _ _ _ _ s2 c.skip_several-2.ensures.same c.in_ok-outs_end.was in
+    rw (p.1, p.2) (unread (guard_stops _ _ _ _ _ _ _ s3 c.skip_several-3.ensures.same c.in_err-guard_end.was) (alike_still 16 (alike_still 8 c.skip_several.ensures.before c.skip_several-2.ensures.before) c.skip_several-3.ensures.before))
+
+pub returns-in_err-end : goal.returns-in_err-end
+returns-in_err-end c =
+    let p = err_from_is_err_and c.from_residual-in_err-end.result c.from_residual-in_err-end.ensures.1 in
+    let s0 = transition-left c.take.ensures c.in_ok-take.was c.args.widths.now c.parts_of-t.ensures in
+    let s1 = ranges_go _ _ _ _ s0 c.skip_ranges.ensures c.in_ok-ranges_end.was in
+    let s2 = inputs_go _ _ _ _ _ s1 c.skip_several.ensures.same c.in_ok-ins_end.was in
+    let s3 = outputs_go _ _ _ _ _ _ s2 c.skip_several-2.ensures.same c.in_ok-outs_end.was in
+    let s4 = guard_goes _ _ _ _ _ _ _ s3 c.skip_several-3.ensures.same c.in_ok-guard_end.was in
+    rw (p.1, p.2) (unread (plan_stops _ _ _ _ _ _ _ _ s4 c.skip_several-4.ensures.same c.in_err-end.was) (alike_still 24 (alike_still 16 (alike_still 8 c.skip_several.ensures.before c.skip_several-2.ensures.before) c.skip_several-3.ensures.before) c.skip_several-4.ensures.before))
 
 pub returns : goal.returns
 returns c =
-    let w = c.take-head.ensures in
-    let e = c.in-Word.is in
-    let f = few-parts w e in
-    let i = c.skip_several-ins_end.ensures in
-    let o = c.skip_several-outs_end.ensures in
-    let g = c.skip_several-guard_end.ensures in
-    let p = c.skip_several-end.ensures in
-    let is = up_to-same c.skip_several-ins_end.result (inputs-stay i.before o.before g.before p.before _ f.1) i.same in
-    let os = up_to-same c.skip_several-outs_end.result (outputs-stay i.before o.before g.before p.before _ f.2) o.same in
-    let gs = up_to-same c.skip_several-guard_end.result (guard_stays i.before o.before g.before p.before _ f.3) g.same in
-    let ps = up_to-same c.skip_several-end.result (plan_stays i.before o.before g.before p.before _ f.4) p.same in
+    let f = few-parts c.take.ensures c.in_ok-take.was c.parts_of-t.ensures in
+    let o = c.skip_several-2.ensures.before in
+    let g = c.skip_several-3.ensures.before in
+    let p = c.skip_several-4.ensures.before in
+    let s0 = transition-left c.take.ensures c.in_ok-take.was c.args.widths.now c.parts_of-t.ensures in
+    let s1 = ranges_go _ _ _ _ s0 c.skip_ranges.ensures c.in_ok-ranges_end.was in
+    let s2 = inputs_go _ _ _ _ _ s1 c.skip_several.ensures.same c.in_ok-ins_end.was in
+    let s3 = outputs_go _ _ _ _ _ _ s2 c.skip_several-2.ensures.same c.in_ok-outs_end.was in
+    let s4 = guard_goes _ _ _ _ _ _ _ s3 c.skip_several-3.ensures.same c.in_ok-guard_end.was in
+    let s5 = plan_goes _ _ _ _ _ _ _ _ s4 c.skip_several-4.ensures.same c.in_ok-end.was in
     record {
       parts = record {
-        same = parts-end _ _ _ w e c.skip_ranges-ranges_end.result c.skip_several-ins_end.result c.skip_several-outs_end.result c.skip_several-guard_end.result c.skip_several-end.result _ _ _ _ c.skip_ranges-ranges_end.ensures is os gs ps;
-        few-variables = f.0;
-        few-inputs = f.1;
-        few-outputs = f.2;
-        few-conjuncts = f.3;
-        few_elements = f.4;
+        same = rw (inputs-stay _ o g p _ f.inputs, outputs-stay _ o g p _ f.outputs, guard_stays _ o g p _ f.conjuncts, plan_stays _ o g p _ f.elements) (sym s5);
+        few = f;
       };
-      before = before_four i.before o.before g.before p.before;
+      before = (alike_still 24 (alike_still 16 (alike_still 8 c.skip_several.ensures.before c.skip_several-2.ensures.before) c.skip_several-3.ensures.before) c.skip_several-4.ensures.before);
     }
-
-pub returns-in_default : goal.returns-in_default
-returns-in_default c = search transitions
-
-pub overflow_add-at : goal.overflow_add-at
-overflow_add-at c = search transitions

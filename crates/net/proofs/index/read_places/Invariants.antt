@@ -1,12 +1,6 @@
 -- `net::index::read_places` meets its contract: the loop of `Nets` over places.
-use mathlib.Core.Path.{◌≡◌}
-use Prim.Native.Nat.{◌-◌}
-use lib.ListN.{length}
 use Rattle.net.proofs.Nets.{Placed}
 use Rattle.net.proofs.index.read_places.Given as goal
 
 abbrev pub invariant-loop-i : goal.invariant-loop-i
-invariant-loop-i l = Placed l.words l.n l.at l.i l.next l.begins l.widths × (length l.begins ≡ length l.initial.begins) × (length l.widths ≡ length l.initial.widths)
-
-abbrev pub decreases-loop-i : goal.decreases-loop-i
-decreases-loop-i l = l.n - l.i
+invariant-loop-i l = Placed l.words l.n l.at l.i l.next l.begins l.widths

@@ -1,23 +1,19 @@
--- `net::skim::skip_arc` meets its contract: the rules of `Structures`, one for each arm.
-use Rattle.net.proofs.Structures.{passing}
+-- `net::skim::skip_arc` meets its contract: the rules of `Structures`, one for each return.
+use Rattle.std.proofs.lemmas.Result.{err_from_is_err_and}
+use native.Mathlib.Omega.{arith}
+use Rattle.net.proofs.Structures.{passing, arc_nowhere, arc-coefficient, arc-components}
 use Rattle.net.proofs.skim.skip_arc.Goals as goal
 
--- src/skim.rt:40:17
+pub returns-in_err-place : goal.returns-in_err-place
+returns-in_err-place c = search passing
+
 pub returns-then-widths-place : goal.returns-then-widths-place
-returns-then-widths-place c = search passing
+returns-then-widths-place c = arc_nowhere _ _ _ _ c.take.ensures c.in_ok-place.was (omega arith)
 
--- src/skim.rt:42:53
-pub overflow_add-at : goal.overflow_add-at
-overflow_add-at c = search passing
+pub returns-in_err-next : goal.returns-in_err-next
+returns-in_err-next c =
+    let p = err_from_is_err_and c.from_residual-in_err-next.result c.from_residual-in_err-next.ensures.1 in
+    rw (p.1, p.2) (arc-coefficient _ _ _ _ c.take.ensures c.in_ok-place.was (omega arith) c.skip_expression.ensures.0 c.in_err-next.was)
 
--- src/skim.rt:33:1
-pub returns-in-Next : goal.returns-in-Next
-returns-in-Next c = search passing
-
--- src/skim.rt:33:1
-pub returns-in-Refused-skip_expression : goal.returns-in-Refused-skip_expression
-returns-in-Refused-skip_expression c = search passing
-
--- src/skim.rt:33:1
-pub returns-in-Refused : goal.returns-in-Refused
-returns-in-Refused c = search passing
+pub returns : goal.returns
+returns c = arc-components _ _ _ _ c.take.ensures c.in_ok-place.was (omega arith) c.skip_expression.ensures.0 c.in_ok-next.was c.skip_expressions.ensures

@@ -1,19 +1,12 @@
--- `net::skim::skip_conjunct` meets its contract: the rules of `Structures`, one for each arm.
-use Rattle.net.proofs.Structures.{passing}
+-- `net::skim::skip_conjunct` meets its contract: the rules of `Structures`, one for each return.
+use Rattle.net.proofs.Structures.{passing, conjunct-right}
 use Rattle.net.proofs.skim.skip_conjunct.Goals as goal
 
--- src/skim.rt:56:67
-pub overflow_add-at : goal.overflow_add-at
-overflow_add-at c = search passing
+pub returns-in_err-take : goal.returns-in_err-take
+returns-in_err-take c = search passing
 
--- src/skim.rt:52:1
-pub returns-in-Next : goal.returns-in-Next
-returns-in-Next c = search passing
+pub returns-in_err-right : goal.returns-in_err-right
+returns-in_err-right c = search passing
 
--- src/skim.rt:52:1
-pub returns-in-Refused-skip_expression : goal.returns-in-Refused-skip_expression
-returns-in-Refused-skip_expression c = search passing
-
--- src/skim.rt:52:1
-pub returns-in-Refused : goal.returns-in-Refused
-returns-in-Refused c = search passing
+pub returns : goal.returns
+returns c = conjunct-right _ _ _ c.take.ensures c.in_ok-take.was c.skip_expression.ensures.0 c.in_ok-right.was c.skip_expression-2.ensures.0

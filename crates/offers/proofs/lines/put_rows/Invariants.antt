@@ -1,9 +1,7 @@
 -- `offers::lines::put_rows` meets its contract: the loop keeps the lines that are left.
+use Prim.Native.Nat.{◌*◌, ◌-◌}
 use Rattle.offers.proofs.Bindings.{LinesLeft}
 use Rattle.offers.proofs.lines.put_rows.Given as goal
 
-abbrev pub invariant-loop-left : goal.invariant-loop-left
-invariant-loop-left l = LinesLeft l.initial.out l.at l.words l.width l.n l.out l.next l.from l.left
-
-abbrev pub decreases-loop-left : goal.decreases-loop-left
-decreases-loop-left l = l.left
+abbrev pub invariant-loop-i : goal.invariant-loop-i
+invariant-loop-i l = LinesLeft l.initial.out l.at l.words l.width l.n l.out l.next (l.i * l.width) (l.n - l.i)

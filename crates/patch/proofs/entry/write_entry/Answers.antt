@@ -1,5 +1,4 @@
 -- `patch::entry::write_entry` meets its contract: the rules of `Writing` for an entry.
-use mathlib.Core.Path.{◌∙◌}
 use native.Mathlib.Omega.{arith}
 use lib.ListN.{length-set}
 use Rattle.patch.proofs.Writing.{none_written, entry_length, entry_written}
@@ -16,9 +15,6 @@ write_values-requires c = let a = c.args in let e = entry_length a.place a.n a.c
 
 pub overflow_add-result-2 : goal.overflow_add-result-2
 overflow_add-result-2 c = let a = c.args in let e = entry_length a.place a.n a.code a.count c.if-count-eq0.false in let h = c.requires.count_in_bounds in omega arith
-
-pub shape_of-next : goal.shape_of-next
-shape_of-next c = c.write_values.auto.next ∙ length-set c.args.next.now c.args.at c.token_word.result
 
 pub returns : goal.returns
 returns c = let a = c.args in let e = entry_length a.place a.n a.code a.count c.if-count-eq0.false in let h = c.requires.count_in_bounds in entry_written a.place a.n a.code a.count c.if-count-eq0.false a.next.now _ a.at _ c.token_word.ensures (omega arith) c.write_values.ensures

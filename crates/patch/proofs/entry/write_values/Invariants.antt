@@ -4,6 +4,3 @@ use Rattle.patch.proofs.entry.write_values.Given as goal
 
 abbrev pub invariant-loop-j : goal.invariant-loop-j
 invariant-loop-j l = Filling l.initial.next l.at l.n l.code l.j l.rest l.next
-
-abbrev pub decreases-loop-j : goal.decreases-loop-j
-decreases-loop-j l = l.j

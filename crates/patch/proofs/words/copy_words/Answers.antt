@@ -1,51 +1,15 @@
--- `patch::words::copy_words` meets its contract: the words copied so far are the first of the part.
-use mathlib.Core.Path.{refl, ◌∙◌}
-use Prim.Native.Nat.{◌+◌}
-use lib.ListN.{get_or, length-set}
-use lib.Seq.{slice, paste-zero}
-use Rattle.patch.proofs.Writing.{copy_turn, copy_end}
+-- `patch::words::copy_words` meets its contract: the copy of all of a part.
+use mathlib.Core.Path.{◌∙◌}
 use native.Mathlib.Omega.{arith}
+use Prim.Native.Nat.{◌-◌}
+use lib.Seq.{slice, length-slice}
+use Rattle.std.proofs.lemmas.Slice.{between_is, put_mid-paste}
+use Rattle.patch.proofs.Writing.{paste-written}
 use Rattle.patch.proofs.words.copy_words.Goals as goal
-
-pub loop-j-init : goal.loop-j-init
-loop-j-init c = (omega arith, refl, paste-zero c.args.next.now c.args.at (slice c.args.from c.args.to c.args.words.now))
-
-pub loop-j-preserved : goal.loop-j-preserved
-loop-j-preserved c =
-    let lp = c.loop-j in
-    (omega arith, length-set lp.next (c.args.at + lp.j) (get_or c.args.words.now (c.args.from + lp.j) 0) ∙ lp.invariant.1, copy_turn c.args.words.now c.args.next.now lp.next c.args.from c.args.to c.args.at lp.j lp.invariant.2 (omega arith) (omega arith) (omega arith))
-
-pub shape_of-next : goal.shape_of-next
-shape_of-next c = c.loop-j.invariant.1
 
 pub returns : goal.returns
 returns c =
-    let lp = c.loop-j in
-    copy_end c.args.words.now c.args.next.now lp.next c.args.from c.args.to c.args.at lp.j lp.invariant.2 (omega arith) (omega arith)
-
-pub overflow_sub-n : goal.overflow_sub-n
-overflow_sub-n c = omega arith
-
-pub overflow_add-next : goal.overflow_add-next
-overflow_add-next c = omega arith
-
-pub offset_bounds-words-from : goal.offset_bounds-words-from
-offset_bounds-words-from c = omega arith
-
-pub bounds-words-from : goal.bounds-words-from
-bounds-words-from c = omega arith
-
-pub overflow_add-next-in-loop-j : goal.overflow_add-next-in-loop-j
-overflow_add-next-in-loop-j c = omega arith
-
-pub offset_bounds-next-at : goal.offset_bounds-next-at
-offset_bounds-next-at c = omega arith
-
-pub bounds-next-at : goal.bounds-next-at
-bounds-next-at c = omega arith
-
-pub overflow_add-j : goal.overflow_add-j
-overflow_add-j c = omega arith
-
-pub loop-j-smaller : goal.loop-j-smaller
-loop-j-smaller c = omega arith
+    let a = c.args in
+    let s = slice a.from a.to a.words.now in
+    let n = length-slice a.from a.to a.words.now (omega arith) in
+    put_mid-paste a.at _ a.next.now _ s (a.to - a.from) (c.copy_from_slice.ensures.after ∙ between_is a.words.now a.from a.to) (omega arith) (omega arith) ∙ paste-written a.next.now a.at s (a.to - a.from) (omega arith)

@@ -2,8 +2,9 @@
 use mathlib.Core.Path.{sym}
 use native.Mathlib.Omega.{arith}
 use lib.Seq.{length-take-le}
+use Rattle.std.proofs.lemmas.Result.{err_from_is_err_and}
 use Rattle.firing.proofs.Firing.{enabled_at}
-use Rattle.picks.proofs.Firing.{fired-refused, written-fits, copy_fits, fired-written}
+use Rattle.picks.proofs.Firing.{fired-refused, copy_fits, fired-written}
 use Rattle.picks.proofs.pick.fire_at.Goals as goal
 
 pub slice_bounds-fire_enabled-end : goal.slice_bounds-fire_enabled-end
@@ -20,21 +21,14 @@ fire_enabled-requires c =
     let pre = c.requires in
     record { places_fit = pre.fits; begins_len = pre.beginnings; inputs_len_bound = (pre.few-inputs, pre.few-outputs); enabled_at = record { conjuncts = pre.conjuncts; fireable = pre.fireable; enabled = enabled_at pre.fireable pre.enabled } }
 
+pub returns-in_err-next : goal.returns-in_err-next
+returns-in_err-next c =
+    let s = c.args in
+    let p = err_from_is_err_and c.from_residual.result c.from_residual.ensures.1 in
+    rw (p.1, p.2) (fired-refused s.buffer.now s.length s.spare.now c.at_most-room.ensures c.in_err-next.ensures)
+
 pub copy_words-requires : goal.copy_words-requires
-copy_words-requires c =
-    let m = c.at_most-room.ensures in
-    let f = c.fire_enabled in
-    let d = c.in-Written.is in
-    let l = f.auto.next in
-    copy_fits c.args.buffer.now c.args.length c.args.spare.now m f.ensures d _ l (written-fits c.args.buffer.now c.args.length c.args.spare.now m f.ensures d c.requires l)
+copy_words-requires c = let s = c.args in copy_fits s.buffer.now s.length s.spare.now c.at_most-room.ensures c.in_ok-next.ensures c.requires c.fire_enabled.auto.next _
 
-pub returns-in-Refused : goal.returns-in-Refused
-returns-in-Refused c = let s = c.args in fired-refused s.buffer.now s.length s.spare.now c.at_most-room.ensures c.fire_enabled.ensures c.in-Refused.is
-
-pub returns-in-Written : goal.returns-in-Written
-returns-in-Written c =
-    let m = c.at_most-room.ensures in
-    let f = c.fire_enabled in
-    let d = c.in-Written.is in
-    let l = f.auto.next in
-    fired-written c.args.buffer.now c.args.length c.args.spare.now m f.ensures d _ l (written-fits c.args.buffer.now c.args.length c.args.spare.now m f.ensures d c.requires l) c.copy_words.ensures
+pub returns : goal.returns
+returns c = let s = c.args in fired-written s.buffer.now s.length s.spare.now c.at_most-room.ensures c.in_ok-next.ensures c.requires c.fire_enabled.auto.next _ c.copy_words.ensures

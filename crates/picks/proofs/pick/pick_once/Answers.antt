@@ -2,6 +2,7 @@
 use mathlib.Core.Path.{sym}
 use native.Mathlib.Omega.{arith}
 use lib.Seq.{length-take-le}
+use Rattle.std.proofs.lemmas.Result.{err_from_is_err_and}
 use Rattle.picks.proofs.Picking.{among, pick-inside, pick-room, pick-rest, pick_lists, pick-withheld, pick_past, pick-fires, pick-fired}
 use borrow.Author.Rules.{rules}
 use Rattle.picks.proofs.pick.pick_once.Goals as goal
@@ -27,14 +28,16 @@ slice_bounds-list_menu-end-3 c = sym (length-take-le _ _ c.requires.inside)
 pub list_menu-requires : goal.list_menu-requires
 list_menu-requires c = pick_lists c.requires
 
-pub returns-then-count-index : goal.returns-then-count-index
-returns-then-count-index c = pick_past c.requires c.args.budget c.args.spare.now c.args.menu.now c.list_menu.ensures c.in-Found.is c.if-count-index.true
+pub returns-in_err-listed : goal.returns-in_err-listed
+returns-in_err-listed c =
+    let p = err_from_is_err_and c.from_residual.result c.from_residual.ensures.1 in
+    rw (p.1, p.2) (pick-withheld c.requires c.args.budget c.args.spare.now c.args.menu.now c.in_err-listed.ensures)
+
+pub returns-then-listed-index : goal.returns-then-listed-index
+returns-then-listed-index c = pick_past c.requires c.args.budget c.args.spare.now c.args.menu.now c.in_ok-listed.ensures c.if-listed-index.true
 
 pub fire_row-requires : goal.fire_row-requires
-fire_row-requires c = pick-fires c.requires c.args.budget c.args.spare.now c.args.menu.now c.list_menu.ensures c.in-Found.is c.if-count-index.false
+fire_row-requires c = pick-fires c.requires c.args.budget c.args.spare.now c.args.menu.now c.in_ok-listed.ensures c.if-listed-index.false
 
-pub returns-in-Refused : goal.returns-in-Refused
-returns-in-Refused c = pick-withheld c.requires c.args.budget c.args.spare.now c.args.menu.now c.list_menu.ensures c.in-Refused.is
-
-pub returns-else-count-index : goal.returns-else-count-index
-returns-else-count-index c = pick-fired c.requires c.args.budget c.args.spare.now c.args.menu.now c.list_menu.ensures c.in-Found.is c.if-count-index.false c.fire_row.ensures
+pub returns : goal.returns
+returns c = pick-fired c.requires c.args.budget c.args.spare.now c.args.menu.now c.in_ok-listed.ensures c.if-listed-index.false c.fire_row.ensures

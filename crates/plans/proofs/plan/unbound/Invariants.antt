@@ -1,9 +1,9 @@
--- `plans::plan::unbound` meets its contract: from the last variable down, those passed are bound.
-use Rattle.plans.proofs.Faults.{Bounded}
+-- `plans::plan::unbound` meets its contract: the variables so far are bound.
+use mathlib.Core.Path.{◌≡◌}
+use mathlib.Core.Bool.{true}
+use Rattle.semantics.specs.Plan.{every_below}
+use Rattle.elements.specs.Bound.{marked}
 use Rattle.plans.proofs.plan.unbound.Given as goal
 
 abbrev pub invariant-loop-n : goal.invariant-loop-n
-invariant-loop-n l = Bounded l.variables l.marks l.n
-
-abbrev pub decreases-loop-n : goal.decreases-loop-n
-decreases-loop-n l = l.n
+invariant-loop-n l = every_below l.n (marked l.marks) ≡ true

@@ -9,14 +9,11 @@ bounds-net-0 c = let p = c.requires in (headed _ p.net p.next p.accepted).some_w
 pub returns-then-transitions-i : goal.returns-then-transitions-i
 returns-then-transitions-i c = net_past _ _ c.if-transitions-i.true
 
-pub put_menu-written-requires : goal.put_menu-written-requires
-put_menu-written-requires c =
-    net_ready _ _ c.if-transitions-i.false c.prepare-s.ensures c.in-Next.is
+pub put_menu-requires : goal.put_menu-requires
+put_menu-requires c = net_ready _ _ c.if-transitions-i.false c.in-Ok.ensures
 
-pub returns-in-Refused : goal.returns-in-Refused
-returns-in-Refused c =
-    net-refused _ _ c.if-transitions-i.false c.prepare-s.ensures c.in-Refused.is c.refusal_part.ensures
+pub returns-in-Err : goal.returns-in-Err
+returns-in-Err c = net-refused _ _ c.if-transitions-i.false c.in-Err.ensures c.number.ensures c.position.ensures c.refusal_part.ensures
 
-pub returns-in-Next : goal.returns-in-Next
-returns-in-Next c =
-    net-menu _ _ c.if-transitions-i.false c.prepare-s.ensures c.in-Next.is c.put_menu-written.ensures
+pub returns-in-Ok : goal.returns-in-Ok
+returns-in-Ok c = net-menu _ _ c.if-transitions-i.false c.in-Ok.ensures c.put_menu.ensures

@@ -26,16 +26,16 @@ slice_bounds-pick_once-end c = sym c.keep_rests.ensures.long
 pub slice_bounds-pick_once-end-in-loop-done : goal.slice_bounds-pick_once-end-in-loop-done
 slice_bounds-pick_once-end-in-loop-done c = sym c.loop-done.invariant.full
 
-pub pick_once-one-requires : goal.pick_once-one-requires
-pick_once-one-requires c = sofar_pickable c.requires c.loop-done.invariant c.if-picks-done.false c.keep_rests.ensures
+pub pick_once-requires : goal.pick_once-requires
+pick_once-requires c = sofar_pickable c.requires c.loop-done.invariant c.if-picks-done.false c.keep_rests.ensures
 
 pub overflow_add-done : goal.overflow_add-done
 overflow_add-done c = let h = c.if-picks-done.false in let f = c.well_formed.1.1.1.1.1.1.1.1.1.0 in search rules
 
 pub loop-done-preserved : goal.loop-done-preserved
 loop-done-preserved c =
-    let p = c.pick_once-one in
-    sofar_fired c.requires c.loop-done.invariant c.if-picks-done.false p.ensures c.if-refusal-ne0.false p.auto.buffer p.auto.spare p.auto.menu p.auto.begins
+    let p = c.pick_once.auto in
+    sofar_fired c.requires c.loop-done.invariant c.if-picks-done.false c.in-Ok.ensures p.buffer p.spare p.menu p.begins
 
 pub shape_of-buffer-then-picks-done : goal.shape_of-buffer-then-picks-done
 shape_of-buffer-then-picks-done c = c.loop-done.invariant.buffer-kept
@@ -49,16 +49,14 @@ shape_of-menu-then-picks-done c = c.loop-done.invariant.menu-kept
 pub returns-then-picks-done : goal.returns-then-picks-done
 returns-then-picks-done c = sofar_ended c.requires c.loop-done.invariant c.if-picks-done.true
 
-pub shape_of-buffer-then-refusal-ne0 : goal.shape_of-buffer-then-refusal-ne0
-shape_of-buffer-then-refusal-ne0 c = c.pick_once-one.auto.buffer ∙ c.loop-done.invariant.buffer-kept
+pub shape_of-buffer-in-Err : goal.shape_of-buffer-in-Err
+shape_of-buffer-in-Err c = c.pick_once.auto.buffer ∙ c.loop-done.invariant.buffer-kept
 
-pub shape_of-spare-then-refusal-ne0 : goal.shape_of-spare-then-refusal-ne0
-shape_of-spare-then-refusal-ne0 c = c.pick_once-one.auto.spare ∙ c.loop-done.invariant.spare-kept
+pub shape_of-spare-in-Err : goal.shape_of-spare-in-Err
+shape_of-spare-in-Err c = c.pick_once.auto.spare ∙ c.loop-done.invariant.spare-kept
 
-pub shape_of-menu-then-refusal-ne0 : goal.shape_of-menu-then-refusal-ne0
-shape_of-menu-then-refusal-ne0 c = c.pick_once-one.auto.menu ∙ c.loop-done.invariant.menu-kept
+pub shape_of-menu-in-Err : goal.shape_of-menu-in-Err
+shape_of-menu-in-Err c = c.pick_once.auto.menu ∙ c.loop-done.invariant.menu-kept
 
-pub returns-then-refusal-ne0 : goal.returns-then-refusal-ne0
-returns-then-refusal-ne0 c =
-    let p = c.pick_once-one in
-    sofar_refused c.requires c.loop-done.invariant c.if-picks-done.false p.ensures c.if-refusal-ne0.true p.auto.buffer
+pub returns-in-Err : goal.returns-in-Err
+returns-in-Err c = sofar_refused c.requires c.loop-done.invariant c.if-picks-done.false c.in-Err.ensures c.pick_once.auto.buffer

@@ -24,6 +24,3 @@ invariant-loop-i l =
     × ((l.slots ≡ l.initial.slots)
     × (Known l.net l.places l.initial.slots l.tested l.first.arcs l.first.n l.keys l.amounts
     × ((length l.keys ≡ 8) × (length l.amounts ≡ 8))))
-
-abbrev pub decreases-loop-i : goal.decreases-loop-i
-decreases-loop-i l = l.step.count - l.i

@@ -1,31 +1,20 @@
--- `solving::solve::bind_value` meets its contract: each answer by its rule in `Solving`.
-use mathlib.Core.Path.{refl}
-use Prim.Native.Nat.{◌≤◌}
-use native.Mathlib.Omega.{arith}
+-- `solving::solve::bind_value` meets its contract: a value or none, by `Solving`.
+use mathlib.Core.Path.{ap}
 use borrow.Author.Rules.{rules}
-use lib.ListN.{length}
-use Rattle.net.specs.Places.{ranges_from}
+use Rattle.semantics.specs.Answer.{option_of}
 use Rattle.word.proofs.Read.{read_back}
+use Rattle.net.specs.Places.{ranges_from}
 use Rattle.tries.proofs.Slots.{tried_not, tried_same}
-use Rattle.solving.proofs.Solving.{slots_stand, all_slots, bound-value, bound-none}
+use Rattle.solving.proofs.Solving.{bound-value, bound-none}
 use Rattle.solving.proofs.solve.bind_value.Goals as goal
 
--- a value
-pub returns-in-Value : goal.returns-in-Value
-returns-in-Value c =
+pub returns-in_default : goal.returns-in_default
+returns-in_default c =
     let a = c.args in
-    let n = c.requires.slots_len.0 in
-    let l : a.variables ≤ length a.slots.now = omega arith in
-    let p = read_back c.in-Value.z c.in-Value.known_told-1-own.given.0.1 in
-    tried_same (simp p at c.bind_new.ensures) (bound-value a.net.now a.slots.now a.variables a.at l (all_slots a.net.now a.slots.now a.variables a.at n c.evaluate.result c.evaluate.ensures) (ranges_from a.net.now a.variables a.ranges) a.n c.in-Value.is refl)
+    tried_not (bound-none a.net.now a.slots.now a.variables a.at c.requires.slots_len.0 c.evaluate.ensures (ranges_from a.net.now a.variables a.ranges) a.n (ap option_of c.in_default.is))
 
--- none
-pub returns-in-NoValue : goal.returns-in-NoValue
-returns-in-NoValue c =
+pub returns : goal.returns
+returns c =
     let a = c.args in
-    let n = c.requires.slots_len.0 in
-    let l : a.variables ≤ length a.slots.now = omega arith in
-    tried_not (bound-none a.net.now a.slots.now a.variables a.at l (all_slots a.net.now a.slots.now a.variables a.at n c.evaluate.result c.evaluate.ensures) (ranges_from a.net.now a.variables a.ranges) a.n c.in-NoValue.is)
-
-pub evaluate-requires : goal.evaluate-requires
-evaluate-requires c = search (rules, slots_stand)
+    let p = read_back c.in-Some.z (search rules) in
+    tried_same (simp p at c.bind_new.ensures) (bound-value a.net.now a.slots.now a.variables a.at c.requires.slots_len.0 c.evaluate.ensures (ranges_from a.net.now a.variables a.ranges) a.n (ap option_of c.in-Some.is))

@@ -1,11 +1,6 @@
 -- `spares::spare::alone` meets its contract: each turn passes the arc itself or one with another ARC word.
-use Prim.Native.Nat.{◌-◌}
-use lib.ListN.{length}
 use Rattle.spares.specs.Spare.{IsAlone}
 use Rattle.spares.proofs.spare.alone.Given as goal
 
 abbrev pub invariant-loop-i : goal.invariant-loop-i
 invariant-loop-i l = IsAlone l.net l.inputs l.k l.i
-
-abbrev pub decreases-loop-i : goal.decreases-loop-i
-decreases-loop-i l = length l.inputs - l.i

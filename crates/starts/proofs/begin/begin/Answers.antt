@@ -1,66 +1,31 @@
 -- `starts::begin::begin` meets its contract: each return is a rule of `Starting`.
-use mathlib.Core.Path.{◌≡◌, refl, sym, ◌∙◌}
-use native.Mathlib.Omega.{arith}
-use lib.ListN.{length}
-use lib.Seq.{length-take-le}
+use mathlib.Core.Path.{◌∙◌}
+use borrow.Author.Rules.{rules}
+use Rattle.std.proofs.lemmas.Result.{err_from_is_err_and}
 use Rattle.starts.proofs.Starting.{start_unaccepted, start_fits, start-unknown, start_unmarked, start_malformed, start-begins}
 use Rattle.starts.proofs.begin.begin.Goals as goal
 
-pub returns-in_default : goal.returns-in_default
-returns-in_default c =
-    let a = c.args in
-    start_unaccepted a.net.now a.buffer.now a.m a.picks.now c.accept_net-index.result c.accept_net-index.ensures c.in_default.is
+pub returns-in_err-index : goal.returns-in_err-index
+returns-in_err-index c =
+    let p = err_from_is_err_and c.from_residual.result c.from_residual.ensures.1 in
+    rw (p.1, p.2) (start_unaccepted _ _ _ _ _ c.in_err-index.ensures)
 
-pub slice_bounds-places_at-end : goal.slice_bounds-places_at-end
-slice_bounds-places_at-end c =
-    let full : length c.accept_net-index.result.places_at ≡ 64 = c.accept_net-index.type_inv.1.1.1.1.1.0.1.0.1 in
-    let w = full in
-    let e = c.at_most-places.ensures in
-    omega arith
+pub returns-in-Some : goal.returns-in-Some
+returns-in-Some c = start-unknown _ _ _ _ c.in_ok-index.ensures (search rules) (search rules) (search rules) c.at_most.ensures c.in-Some.ensures
 
-pub slice_bounds-read_marking_in-end : goal.slice_bounds-read_marking_in-end
-slice_bounds-read_marking_in-end c =
-    let full : length c.accept_net-index.result.places_at ≡ 64 = c.accept_net-index.type_inv.1.1.1.1.1.0.1.0.1 in
-    let w = full in
-    let e = c.at_most-places.ensures in
-    sym (length-take-le _ _ (omega arith))
+pub read_marking_in-requires-clause-places_fit : goal.read_marking_in-requires-clause-places_fit
+read_marking_in-requires-clause-places_fit c =
+    start_fits c.args.net.now c.args.buffer.now c.args.m c.args.picks.now c.in_ok-index.ensures (search rules) (search rules) c.at_most-places.ensures
 
-pub read_marking_in-requires : goal.read_marking_in-requires
-read_marking_in-requires c =
-    let full : length c.accept_net-index.result.places_at ≡ 64 = c.accept_net-index.type_inv.1.1.1.1.1.0.1.0.1 in
-    let wide : length c.accept_net-index.result.widths ≡ 64 = c.accept_net-index.type_inv.1.1.1.1.1.1.0.1.0.1 in
-    let long : length c.accept_net-index.result.transitions_at ≡ 64 = c.accept_net-index.type_inv.1.1.1.1.1.1.1.0.1.0.1 in
-    let a = c.args in
-    record { places_fit = start_fits a.net.now a.buffer.now a.m a.picks.now c.accept_net-index.result c.accept_net-index.ensures c.in-Next.is full wide long c.at_most.ensures c.at_most-places.ensures; begins_len = refl }
+pub returns-in_err-read_marking_in : goal.returns-in_err-read_marking_in
+returns-in_err-read_marking_in c =
+    let p = err_from_is_err_and c.from_residual-in_err-read_marking_in.result c.from_residual-in_err-read_marking_in.ensures.1 in
+    rw (p.1, p.2) (start_unmarked _ _ _ _ c.in_ok-index.ensures (search rules) (search rules) (search rules) c.at_most.ensures c.in_default.ensures c.at_most-places.ensures c.read_marking_in.ensures c.in_err-read_marking_in.was)
 
-pub returns-in-At : goal.returns-in-At
-returns-in-At c =
-    let full : length c.accept_net-index.result.places_at ≡ 64 = c.accept_net-index.type_inv.1.1.1.1.1.0.1.0.1 in
-    let wide : length c.accept_net-index.result.widths ≡ 64 = c.accept_net-index.type_inv.1.1.1.1.1.1.0.1.0.1 in
-    let long : length c.accept_net-index.result.transitions_at ≡ 64 = c.accept_net-index.type_inv.1.1.1.1.1.1.1.0.1.0.1 in
-    let a = c.args in
-    start-unknown a.net.now a.buffer.now a.m a.picks.now c.accept_net-index.result c.accept_net-index.ensures c.in-Next.is full wide long c.at_most.ensures c.first_unknown.result c.first_unknown.ensures c.in-At.is c.refused_index.ensures
+pub returns-in-Some-first_malformed : goal.returns-in-Some-first_malformed
+returns-in-Some-first_malformed c =
+    start_malformed _ _ _ _ c.in_ok-index.ensures (search rules) (search rules) (search rules) c.at_most.ensures c.in_default.ensures c.at_most-places.ensures c.read_marking_in.ensures c.in_ok-read_marking_in.was c.in-Some-first_malformed.ensures
 
-pub returns-in-Refused : goal.returns-in-Refused
-returns-in-Refused c =
-    let full : length c.accept_net-index.result.places_at ≡ 64 = c.accept_net-index.type_inv.1.1.1.1.1.0.1.0.1 in
-    let wide : length c.accept_net-index.result.widths ≡ 64 = c.accept_net-index.type_inv.1.1.1.1.1.1.0.1.0.1 in
-    let long : length c.accept_net-index.result.transitions_at ≡ 64 = c.accept_net-index.type_inv.1.1.1.1.1.1.1.0.1.0.1 in
-    let a = c.args in
-    start_unmarked a.net.now a.buffer.now a.m a.picks.now c.accept_net-index.result c.accept_net-index.ensures c.in-Next.is full wide long c.at_most.ensures c.first_unknown.result c.first_unknown.ensures c.in-Nothing.is c.at_most-places.ensures c.read_marking_in.result c.read_marking_in.ensures c.in-Refused.is c.refused_index-in-Refused.ensures
-
-pub returns-in-At-first_malformed : goal.returns-in-At-first_malformed
-returns-in-At-first_malformed c =
-    let full : length c.accept_net-index.result.places_at ≡ 64 = c.accept_net-index.type_inv.1.1.1.1.1.0.1.0.1 in
-    let wide : length c.accept_net-index.result.widths ≡ 64 = c.accept_net-index.type_inv.1.1.1.1.1.1.0.1.0.1 in
-    let long : length c.accept_net-index.result.transitions_at ≡ 64 = c.accept_net-index.type_inv.1.1.1.1.1.1.1.0.1.0.1 in
-    let a = c.args in
-    start_malformed a.net.now a.buffer.now a.m a.picks.now c.accept_net-index.result c.accept_net-index.ensures c.in-Next.is full wide long c.at_most.ensures c.first_unknown.result c.first_unknown.ensures c.in-Nothing.is c.at_most-places.ensures c.read_marking_in.result c.read_marking_in.ensures c.in-Next-read_marking_in.is c.first_malformed.result c.first_malformed.ensures c.in-At-first_malformed.is c.refused_index-in-At-first_malformed.ensures
-
-pub returns-in-Nothing-first_malformed : goal.returns-in-Nothing-first_malformed
-returns-in-Nothing-first_malformed c =
-    let full : length c.accept_net-index.result.places_at ≡ 64 = c.accept_net-index.type_inv.1.1.1.1.1.0.1.0.1 in
-    let wide : length c.accept_net-index.result.widths ≡ 64 = c.accept_net-index.type_inv.1.1.1.1.1.1.0.1.0.1 in
-    let long : length c.accept_net-index.result.transitions_at ≡ 64 = c.accept_net-index.type_inv.1.1.1.1.1.1.1.0.1.0.1 in
-    let a = c.args in
-    start-begins a.net.now a.buffer.now a.m a.picks.now c.accept_net-index.result c.accept_net-index.ensures c.in-Next.is full wide long c.at_most.ensures c.first_unknown.result c.first_unknown.ensures c.in-Nothing.is c.at_most-places.ensures c.read_marking_in.result c.read_marking_in.ensures c.in-Next-read_marking_in.is c.first_malformed.result c.first_malformed.ensures (c.accept_net-index.auto.table ∙ c.requires) c.in-Nothing-first_malformed.is
+pub returns : goal.returns
+returns c =
+    start-begins _ _ _ _ c.in_ok-index.ensures (search rules) (search rules) (search rules) c.at_most.ensures c.in_default.ensures c.at_most-places.ensures c.read_marking_in.ensures c.in_ok-read_marking_in.was (c.accept_net.auto.table ∙ c.requires) c.in_default-first_malformed.ensures

@@ -2,8 +2,8 @@
 use Rattle.text_lines.proofs.Lines.{row-none, row-some}
 use Rattle.text_lines.proofs.line.put_row.Goals as goal
 
-pub returns-then-row-eq0 : goal.returns-then-row-eq0
-returns-then-row-eq0 c = row-none c.args.row.now c.if-row-eq0.true c.put_byte.ensures
+pub returns-in_default : goal.returns-in_default
+returns-in_default c = row-none c.args.row.now c.in_default.len_below c.put_byte.ensures
 
 pub returns : goal.returns
-returns c = row-some c.args.row.now c.if-row-eq0.false c.put_value-next.ensures c.put_later.ensures
+returns c = row-some c.args.row.now c.in-len1-up.len_at_least c.put_value-next.ensures c.put_later.ensures

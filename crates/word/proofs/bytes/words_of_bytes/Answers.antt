@@ -1,9 +1,6 @@
 -- `word::bytes::words_of_bytes` meets its contract: the loop of `Copying`.
-use Rattle.word.proofs.Copying.{filled_again, filled_end}
+use Rattle.word.proofs.Copying.{filled_again}
 use Rattle.word.proofs.bytes.words_of_bytes.Goals as goal
 
 pub loop-i-preserved : goal.loop-i-preserved
 loop-i-preserved c = filled_again c.loop-i.invariant c.loop-i-test.true c.word_of.ensures
-
-pub returns : goal.returns
-returns c = record { value = c.at_most-n.ensures; words_after = filled_end c.loop-i.invariant c.loop-i-test.false }

@@ -1,9 +1,0 @@
--- `conformance_lister::counting::count_tries` is safe and ends. The measure is the number of turns that are left; the buffer keeps its length.
-use Rattle.std.proofs.Common.{◌≡◌, length}
-use Rattle.conformance_lister.proofs.counting.count_tries.Given as goal
-
-abbrev pub invariant-loop-left : goal.invariant-loop-left
-invariant-loop-left l = length l.queue ≡ length l.initial.queue
-
-abbrev pub decreases-loop-left : goal.decreases-loop-left
-decreases-loop-left l = l.left

@@ -1,6 +1,0 @@
--- `conformance_lister::lister::list_all` is safe and ends. The measure is the number of turns that are left; the buffer keeps its length.
-use Rattle.std.proofs.Common.{refl}
-use Rattle.conformance_lister.proofs.lister.list_all.Goals as goal
-
-pub loop-index-init : goal.loop-index-init
-loop-index-init c = refl

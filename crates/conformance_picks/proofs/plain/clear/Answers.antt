@@ -1,6 +1,0 @@
--- `conformance_picks::plain::clear` is safe and ends. The measure is the number of turns that are left; the buffer keeps its length.
-use Rattle.std.proofs.Common.{refl}
-use Rattle.conformance_picks.proofs.plain.clear.Goals as goal
-
-pub loop-i-init : goal.loop-i-init
-loop-i-init c = refl

@@ -1,9 +1,0 @@
--- `conformance_picks::plain::is_over` is safe and ends. The measure is the number of turns that are left.
-use Rattle.std.proofs.Common.{◌-◌, length}
-use Rattle.conformance_picks.proofs.plain.is_over.Given as goal
-
-abbrev pub invariant-loop-i : goal.invariant-loop-i
-invariant-loop-i l = Unit {0}
-
-abbrev pub decreases-loop-i : goal.decreases-loop-i
-decreases-loop-i l = length l.cells - l.i

@@ -1,5 +1,0 @@
--- `conformance_plain::counts::after_values` is safe and ends. The measure is the number of turns that are left.
-use Rattle.conformance_plain.proofs.counts.after_values.Goals as goal
-
-pub loop-left-init : goal.loop-left-init
-loop-left-init c = tt

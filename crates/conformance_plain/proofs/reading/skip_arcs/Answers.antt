@@ -1,5 +1,0 @@
--- `conformance_plain::reading::skip_arcs` is safe and ends. The measure is the number of turns that are left.
-use Rattle.conformance_plain.proofs.reading.skip_arcs.Goals as goal
-
-pub loop-left-init : goal.loop-left-init
-loop-left-init c = tt

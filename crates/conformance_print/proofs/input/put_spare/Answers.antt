@@ -1,6 +1,0 @@
--- `conformance_print::input::put_spare` is safe and ends. The measure is the number of bytes that are left; the buffer keeps its length.
-use Rattle.std.proofs.Common.{refl}
-use Rattle.conformance_print.proofs.input.put_spare.Goals as goal
-
-pub loop-i-init : goal.loop-i-init
-loop-i-init c = refl

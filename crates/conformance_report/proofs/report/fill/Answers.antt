@@ -1,6 +1,0 @@
--- `conformance_report::report::fill` is safe and ends. The measure is the number of words that are left; the buffer keeps its length.
-use Rattle.std.proofs.Common.{refl}
-use Rattle.conformance_report.proofs.report.fill.Goals as goal
-
-pub loop-i-init : goal.loop-i-init
-loop-i-init c = refl

@@ -1,9 +1,0 @@
--- `conformance_report::report::zeros` is safe and ends. The measure is the number of turns that are left.
-use Rattle.std.proofs.Common.{◌-◌}
-use Rattle.conformance_report.proofs.report.zeros.Given as goal
-
-abbrev pub invariant-loop-i : goal.invariant-loop-i
-invariant-loop-i l = Unit {0}
-
-abbrev pub decreases-loop-i : goal.decreases-loop-i
-decreases-loop-i l = l.n - l.i
