@@ -1,5 +1,5 @@
 // Expressions in words: operators with their operands in brackets.
-ghost use Rattle.std.specs.Prelude.{◌≤◌, length, IfOk};
+ghost use Rattle.std.specs.Prelude.{◌≤◌, ◌+◌, length, IfOk};
 
 use std::fmt;
 use word::fields::{kind, signed};
@@ -46,7 +46,10 @@ fn spell<W: fmt::Write>(f: &mut fmt::Formatter<W>, words: &[u32]) -> Result<usiz
 pub fn put_expression<'a, W: fmt::Write>(
     f: &mut fmt::Formatter<W>,
     words: &'a [u32],
-) -> Result<&'a [u32], fmt::Error> {
+) -> Result<&'a [u32], fmt::Error>
+    ensures no_more { IfOk result (λ rest. length rest.now ≤ length words.now) }
+    ensures at_most_15 { IfOk result (λ rest. length words.now ≤ length rest.now + 15) }
+{
     let most = words.len().min(15);
     let n = spell(f, &words[..most])?;
     Ok(&words[n..])
