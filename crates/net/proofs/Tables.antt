@@ -50,7 +50,7 @@ module _ {R : Reader (Unit {0})} {n at i next : ℕ} {table : List ℕ} {base : 
   written-before : (x : ℕ) → Alike base (set after (base + i) x) table
   written-before x = record { same = take-set-le base after (base + i) x (omega arith) ∙ a.before.same }
 
-  pub filled_end : n ≤ i → AreStarted n R at table base (Ok next) after
+  pub filled_end : n ≤ i → AreStarted n R (Ok at) table base (Ok next) after
   filled_end h = record { same = collected_end a.collected h; before = a.before }
 
   module _ {r : Result ℕ Refusal} (h : i < n) (s : skipped r ≡ R next) where
@@ -62,7 +62,7 @@ module _ {R : Reader (Unit {0})} {n at i next : ℕ} {table : List ℕ} {base : 
     }
 
     -- whatever was written where the refused one begins
-    pub filled_stops : (x : ℕ) {e : Refusal} → r ≡ Err e → AreStarted n R at table base (Err e) (set after (base + i) x)
+    pub filled_stops : (x : ℕ) {e : Refusal} → r ≡ Err e → AreStarted n R (Ok at) table base (Err e) (set after (base + i) x)
     filled_stops x e = record { same = collected_stops a.collected h s e; before = written-before x }
 
 -- ── Four kinds, one after the other ──

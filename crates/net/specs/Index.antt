@@ -3,11 +3,12 @@
 use Rattle.std.specs.Prelude.{◌≡◌, ℕ, ◌/◌, ◌%◌, ◌≤◌, take, drop, Result, Ok, Err}
 use mathlib.Core.List.{List, zip}
 use Rattle.semantics.specs.declared.refusal.Refusal.{Refusal}
-use Rattle.semantics.specs.Reading.{Reading, read, Reader}
+use Rattle.semantics.specs.Reading.{Reading, read, then, Reader}
 use Rattle.semantics.specs.Answer.{refusing}
 use Rattle.net.specs.declared.index.Parts.{Parts}
 use Rattle.net.specs.declared.index.PlaceIndex.{PlaceIndex}
 use Rattle.net.specs.declared.index.NetIndex.{NetIndex}
+use Rattle.expression.specs.Skip.{skipped}
 use Rattle.net.specs.Skim.{starts, Outline, skim_transition, NetOutline}
 
 -- ── Structures ──
@@ -21,9 +22,9 @@ up_to (Err e) a = refusing e
 pub record Alike (n : ℕ) (l m : List ℕ) : Type 0 where
   pub same : take n l ≡ take n m
 
--- n structures of one kind: where they begin stands in a table from a number on; what is before that number stays
-pub record AreStarted (n : ℕ) (one : Reader (Unit {0})) (at : ℕ) (table : List ℕ) (base : ℕ) (r : Result ℕ Refusal) (after : List ℕ) : Type 0 where
-  pub same : up_to r (take n (drop base after)) ≡ starts n one at
+-- n structures of one kind, after others that end or are refused: where they begin stands in a table from a number on; what is before that number stays
+pub record AreStarted (n : ℕ) (one : Reader (Unit {0})) (from : Result ℕ Refusal) (table : List ℕ) (base : ℕ) (r : Result ℕ Refusal) (after : List ℕ) : Type 0 where
+  pub same : up_to r (take n (drop base after)) ≡ then (skipped from) (λ u at. starts n one at)
   pub before : Alike base after table
 
 -- where the parts of a transition begin, as 32 numbers have them: eight for each kind of part

@@ -46,9 +46,18 @@ pub fn read_parts(
     let t = parts_of(take(words, at, 4)?);
     let v = t.variables;
     let ranges_end = skip_ranges(words, v, at + 1)?;
-    let ins_end = skip_several(words, widths, v, 5, table, base, t.inputs, ranges_end)?;
-    let outs_end = skip_several(words, widths, v, 5, table, base + 8, t.outputs, ins_end)?;
-    let guard_end = skip_several(words, widths, v, 6, table, base + 16, t.conjuncts, outs_end)?;
+    let ins_end = skip_several(words, widths, v, 5, table, base, t.inputs, Ok(ranges_end))?;
+    let outs_end = skip_several(words, widths, v, 5, table, base + 8, t.outputs, Ok(ins_end))?;
+    let guard_end = skip_several(
+        words,
+        widths,
+        v,
+        6,
+        table,
+        base + 16,
+        t.conjuncts,
+        Ok(outs_end),
+    )?;
     let end = skip_several(
         words,
         widths,
@@ -57,7 +66,7 @@ pub fn read_parts(
         table,
         base + 24,
         t.elements,
-        guard_end,
+        Ok(guard_end),
     )?;
     Ok((t, end))
 }

@@ -60,7 +60,7 @@ fn skip_one(
     }
 }
 
-// n structures of one kind; where each begins is written to a table from a number on.
+// n structures of one kind from the end of what stands before them, or its refusal; where each begins is written to a table from a number on.
 pub fn skip_several(
     words: &[u32],
     widths: &[usize],
@@ -69,11 +69,12 @@ pub fn skip_several(
     table: &mut [usize],
     base: usize,
     n: usize,
-    at: usize,
+    from: Result<usize, Refusal>,
 ) -> Result<usize, Refusal>
     requires { base + n ≤ length table.old }
-    ensures { AreStarted n (skim_one words.now widths.now variables k) at table.old base result table.new }
+    ensures { AreStarted n (skim_one words.now widths.now variables k) from table.old base result table.new }
 {
+    let at = from?;
     let mut next = at;
     for i in 0..n {
         table[base + i] = next;
