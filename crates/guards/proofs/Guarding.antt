@@ -4,7 +4,7 @@ use mathlib.Core.Path.{◌≡◌, refl}
 use Prim.Native.Nat.{ℕ, ◌+◌, ◌≤◌, ◌<◌}
 use mathlib.Core.Bool.{Bool, true, false, ◌&&◌}
 use mathlib.Core.List.{List}
-use mathlib.Core.Option.{Option}
+use mathlib.Core.Option.{Option, none}
 use native.Mathlib.Numerals.{add-one}
 use native.Mathlib.Omega.{arith}
 use borrow.Author.Rules.{rules}
@@ -40,6 +40,10 @@ module _ (ws bs : List ℕ) (at : ℕ) (h : HasConjunct ws (length bs) at) where
     left-value : (value house_table (lent bs) h.conjunct.left ≡ x) × (mid ≡ (sides h).mid)
     left-value = read-value ws (length bs) (at + 1) (sides h).left bs refl e
 
+    pub left-none : x ≡ none → false ≡ conjunct_holds (lent bs) (read_conjunct ws (length bs) at)
+    unfolding holds
+    left-none d = rw (h.reads, left-value.0, d)
+
     -- the right side stands where the left one ends
     pub right_there : HasExpression ws (length bs) mid
     right_there = rw left-value.1 (right-stands h)
@@ -52,7 +56,7 @@ module _ (ws bs : List ℕ) (at : ℕ) (h : HasConjunct ws (length bs) at) where
       unfolding holds
       both_told k g = rw (h.reads, left-value.0, (read-value ws (length bs) mid right bs refl f).0, (sides h).relation, ← k) g
 
-pub ruleset conjuncts = (rules, conjunct-inside, left-fits, left-stands, right_there, both_told)
+pub ruleset conjuncts = (rules, conjunct-inside, left-fits, left-stands, left-none, right_there, both_told)
 
 -- ── A guard ──
 

@@ -17,6 +17,10 @@ pub fn holds_at(net: &[u32], binding: &[u32], at: usize) -> bool
 {
     let relation = payload(net[at]);
     let left = evaluate(net, binding, at + 1);
+    // A left side without value settles it: the right one is not evaluated then.
+    let Some(_) = left.value else {
+        return false;
+    };
     let right = evaluate(net, binding, left.next);
     compared(relation, left.value, right.value)
 }

@@ -1,5 +1,7 @@
 -- `guards::guard::holds_at` meets its contract.
-use Rattle.guards.proofs.Guarding.{conjuncts}
+use mathlib.Core.Path.{ap}
+use Rattle.semantics.specs.Answer.{option_of}
+use Rattle.guards.proofs.Guarding.{conjuncts, left-none}
 use Rattle.guards.proofs.guard.holds_at.Goals as goal
 
 pub offset_bounds-net-at : goal.offset_bounds-net-at
@@ -19,3 +21,6 @@ evaluate-right-requires c = search conjuncts
 
 pub returns : goal.returns
 returns c = search conjuncts
+
+pub returns-in_default : goal.returns-in_default
+returns-in_default c = left-none _ _ _ c.requires c.evaluate-left.ensures (ap option_of c.in_default.is)
