@@ -55,12 +55,18 @@ module _ (d : List ℕ) (at : ℕ) where
 pub paste_turn : (d d' s : List ℕ) (at j : ℕ) → d' ≡ paste d at s j → j < length s → at + j < length d → set d' (at + j) (get_or s j 0) ≡ paste d at s (j + 1)
 paste_turn d d' s at j e h l = rw (e, add-one j) (paste-suc d at s j 0 l h)
 
+pub paste-end : (d d' s : List ℕ) (at j : ℕ) → d' ≡ paste d at s j → j ≡ length s → d' ≡ written d at s
+paste-end d d' s at j e h = e ∙ paste-written d at s j h
+
 -- of a part of a list
 pub copy_turn : (ws d d' : List ℕ) (from to at j : ℕ) → d' ≡ paste d at (slice from to ws) j → j < to - from → to ≤ length ws → at + j < length d → set d' (at + j) (get_or ws (from + j) 0) ≡ paste d at (slice from to ws) (j + 1)
 copy_turn ws d d' from to at j e h k l =
     let i : get_or (slice from to ws) j 0 ≡ get_or ws (from + j) 0 = get_or-drop from (take to ws) j 0 ∙ get_or-take to ws (from + j) 0 (omega arith) in
     let n = length-slice from to ws k in
     rw (← i) (paste_turn d d' (slice from to ws) at j e (omega arith) l)
+
+pub copy_end : (ws d d' : List ℕ) (from to at j : ℕ) → d' ≡ paste d at (slice from to ws) j → j ≡ to - from → to ≤ length ws → d' ≡ written d at (slice from to ws)
+copy_end ws d d' from to at j e h k = paste-end d d' (slice from to ws) at j e (h ∙ sym (length-slice from to ws k))
 
 -- ── The words of a colour ──
 

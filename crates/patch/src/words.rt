@@ -9,5 +9,8 @@ pub fn copy_words(words: &[u32], from: usize, to: usize, next: &mut [u32], at: u
     ensures { next.new ≡ written next.old at (slice from to words.now) }
 {
     let n = to - from;
-    next[at..at + n].copy_from_slice(&words[from..to]);
+    // By a loop: `copy_from_slice` is a call of C's memmove here, of which the static library has no need, also where few words are copied.
+    for j in 0..n {
+        next[at + j] = words[from + j];
+    }
 }

@@ -2,7 +2,7 @@
 -- One law for each end and turn of the loop.
 use mathlib.Core.Path.{◌≡◌, refl, sym, ap, ◌∙◌}
 use mathlib.Core.Logic.{◌⊎◌, inl, inr}
-use mathlib.Core.Bool.{Bool, true, false, cond}
+use mathlib.Core.Bool.{Bool, true, false}
 use mathlib.Core.List.{List, [], ◌∷◌}
 use Prim.Native.Nat.{ℕ, zero, suc, ◌+◌, ◌≤◌, ◌<◌, ◌%◌}
 use native.Mathlib.Numerals.{add-one}
@@ -13,16 +13,13 @@ use mir.Syntax.{w32}
 use mir.Val.{to_z, of_z}
 use lib.ListN.{length, get_or, take, drop, length-map, length-drop, get_or-map}
 use lib.Seq.{take-suc, take_all, length-take-le, get_or-take, get_or-drop}
-use Rattle.std.specs.declared.cmp.Ordering.{Ordering}
-use Rattle.std.specs.declared.cmp.Ordering.TheVariants.{Less, Equal, Greater}
-use Rattle.std.specs.Ordering.{int_cmp}
 use Rattle.semantics.specs.Word.{signed}
 use Rattle.semantics.specs.Order.{before}
 use Rattle.semantics.proofs.Tests.{not_both}
 use Rattle.semantics.proofs.Integers.{lt_z-total}
 use Rattle.semantics.proofs.Order.{before-first, before-rest}
 use Rattle.word.proofs.Read.{read_back}
-use Rattle.rows.specs.Rows.{values_of_words, Stands}
+use Rattle.rows.specs.Rows.{values_of_words}
 
 -- ── Two lists of values ──
 
@@ -47,20 +44,6 @@ neither_less x y p q = by (lt_z-total x y)
     by (inl h) = absurd (not_both (lt_z x y) h p)
     by (inr (inl h)) = h
     by (inr (inr h)) = absurd (not_both (lt_z y x) h q)
-
--- what a comparison of two integers says
-abbrev Ordered : Ordering → ℤ → ℤ → Type 0
-Ordered Less x y = lt_z x y ≡ true
-Ordered Equal x y = x ≡ y
-Ordered Greater x y = lt_z y x ≡ true
-
-ordered : {o : Ordering} (x y : ℤ) → o ≡ int_cmp x y → Ordered o x y
-ordered {o} x y e = rw e (by (lt_z x y) (lt_z y x) refl refl)
-  where
-    by : (t u : Bool) → lt_z x y ≡ t → lt_z y x ≡ u → Ordered (cond t Less (cond u Greater Equal)) x y
-    by true u p q = p
-    by false true p q = q
-    by false false p q = neither_less x y p q
 
 -- ── Words of a buffer against a row ──
 
@@ -101,22 +84,19 @@ module _ {m : List ℕ} {at : ℕ} {row : List ℕ} {j : ℕ} (a : Alike m at ro
     right-value : get_or (values_of_words row) j (pos 0) ≡ signed (get_or row j 0 % 16384)
     right-value = get_or-map (λ w. signed (w % 16384)) row j 0
 
-    -- what the code found of the values there: it compares them as it reads them back from bits
-    module _ {x y : ℤ} {o : Ordering} (p : (x ≡ signed (get_or m (at + j) 0 % 16384)) × (mag x < 8192)) (q : (y ≡ signed (get_or row j 0 % 16384)) × (mag y < 8192)) (e : o ≡ int_cmp (to_z w32 (of_z w32 x)) (to_z w32 (of_z w32 y))) where
-      told : o ≡ int_cmp (get_or (values_there m at row) j (pos 0)) (get_or (values_of_words row) j (pos 0))
-      told = e ∙ rw (read_back x (omega (arith, p.1)), read_back y (omega (arith, q.1)), p.0, q.0, ← left-value, ← right-value) refl
+    pub alike_under : lt_z (signed (get_or m (at + j) 0 % 16384)) (signed (get_or row j 0 % 16384)) ≡ true → before (values_there m at row) (values_of_words row) ≡ true
+    alike_under p = before_at j (values_there m at row) (values_of_words row) a.same (rw left-long h) (rw right-long h) (rw (left-value, right-value) p)
 
-      pub alike_differs : (o ≡ Equal → ⊥) → Stands o (values_there m at row) (values_of_words row)
-      alike_differs d = by o d (ordered _ _ told)
-        where
-          by : (u : Ordering) → (u ≡ Equal → ⊥) → Ordered u (get_or (values_there m at row) j (pos 0)) (get_or (values_of_words row) j (pos 0)) → Stands u (values_there m at row) (values_of_words row)
-          by Less n t = before_at j (values_there m at row) (values_of_words row) a.same (rw left-long h) (rw right-long h) t
-          by Equal n t = absurd (n refl)
-          by Greater n t = before_at j (values_of_words row) (values_there m at row) (sym a.same) (rw right-long h) (rw left-long h) t
+    pub alike_over : lt_z (signed (get_or row j 0 % 16384)) (signed (get_or m (at + j) 0 % 16384)) ≡ true → before (values_of_words row) (values_there m at row) ≡ true
+    alike_over p = before_at j (values_of_words row) (values_there m at row) (sym a.same) (rw right-long h) (rw left-long h) (rw (left-value, right-value) p)
 
-      pub alike_turn : o ≡ Equal → Alike m at row (j + 1)
-      alike_turn d = record {
-        room = a.room;
-        inside = omega arith;
-        same = take_more j (values_there m at row) (values_of_words row) a.same (rw left-long h) (rw right-long h) (ordered _ _ (sym d ∙ told));
-      }
+    pub alike_turn : lt_z (signed (get_or m (at + j) 0 % 16384)) (signed (get_or row j 0 % 16384)) ≡ false → lt_z (signed (get_or row j 0 % 16384)) (signed (get_or m (at + j) 0 % 16384)) ≡ false → Alike m at row (j + 1)
+    alike_turn p q = record {
+      room = a.room;
+      inside = omega arith;
+      same = take_more j (values_there m at row) (values_of_words row) a.same (rw left-long h) (rw right-long h) (left-value ∙ neither_less (signed (get_or m (at + j) 0 % 16384)) (signed (get_or row j 0 % 16384)) p q ∙ sym right-value);
+    }
+
+-- what the code found of two values: it compares them as it reads them back from bits
+pub told : {x y v w : ℤ} {t u : Bool} → (x ≡ v) × (mag x < 8192) → (y ≡ w) × (mag y < 8192) → t ≡ lt_z (to_z w32 (of_z w32 x)) (to_z w32 (of_z w32 y)) → t ≡ u → lt_z v w ≡ u
+told {x} {y} p q e d = rw (read_back x (omega (arith, p.1)) ∙ p.0, read_back y (omega (arith, q.1)) ∙ q.0) at (sym e ∙ d)

@@ -1,4 +1,5 @@
 pub mod Alike
+pub mod Shift
 pub mod Ranks
 pub mod Rows
 pub mod Places

@@ -1,15 +1,24 @@
--- `patch::words::copy_words` meets its contract: the copy of all of a part.
-use mathlib.Core.Path.{◌∙◌}
+-- `patch::words::copy_words` meets its contract: the words copied so far are the first of the part.
+use mathlib.Core.Path.{refl, ◌∙◌}
+use Prim.Native.Nat.{◌+◌}
+use lib.ListN.{get_or, length-set}
+use lib.Seq.{slice, paste-zero}
+use Rattle.patch.proofs.Writing.{copy_turn, copy_end}
 use native.Mathlib.Omega.{arith}
-use Prim.Native.Nat.{◌-◌}
-use lib.Seq.{slice, length-slice}
-use Rattle.std.proofs.lemmas.Slice.{between_is, put_mid-paste}
-use Rattle.patch.proofs.Writing.{paste-written}
 use Rattle.patch.proofs.words.copy_words.Goals as goal
+
+pub loop-j-init : goal.loop-j-init
+loop-j-init c = (omega arith, refl, paste-zero c.args.next.now c.args.at (slice c.args.from c.args.to c.args.words.now))
+
+pub loop-j-preserved : goal.loop-j-preserved
+loop-j-preserved c =
+    let lp = c.loop-j in
+    (omega arith, length-set lp.next (c.args.at + lp.j) (get_or c.args.words.now (c.args.from + lp.j) 0) ∙ lp.invariant.1, copy_turn c.args.words.now c.args.next.now lp.next c.args.from c.args.to c.args.at lp.j lp.invariant.2 (omega arith) (omega arith) (omega arith))
+
+pub shape_of-next : goal.shape_of-next
+shape_of-next c = c.loop-j.invariant.1
 
 pub returns : goal.returns
 returns c =
-    let a = c.args in
-    let s = slice a.from a.to a.words.now in
-    let n = length-slice a.from a.to a.words.now (omega arith) in
-    put_mid-paste a.at _ a.next.now _ s (a.to - a.from) (c.copy_from_slice.ensures.after ∙ between_is a.words.now a.from a.to) (omega arith) (omega arith) ∙ paste-written a.next.now a.at s (a.to - a.from) (omega arith)
+    let lp = c.loop-j in
+    copy_end c.args.words.now c.args.next.now lp.next c.args.from c.args.to c.args.at lp.j lp.invariant.2 (omega arith) (omega arith)
