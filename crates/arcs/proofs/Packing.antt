@@ -191,6 +191,13 @@ module _ {ws bs : List ℕ} {ranges n at i next : ℕ} {c : Option ℕ} (a : Pac
           stand = others_of several-stand v.reads;
         }
 
+    pub packing_past : {t : Component} → IsComponent ws bs next (Some t) → t.digit ≡ None → Packing ws bs ranges n at (i + 1) t.next None
+    packing_past {t} x e = packing_turn {range = get_or ws (ranges + i) 0} x refl (by c t.digit e)
+      where
+        by : (c d : Option ℕ) → d ≡ None → None ≡ put_digit c (get_or ws (ranges + i) 0) d
+        by None d h = refl
+        by (Some k) d h = rw h refl
+
     pub packing_nothing : IsComponent ws bs next None → IsPacked ws bs ranges n at Nothing
     packing_nothing x = record { packs = sym (ahead none (colour-none (n - (i + 1)) (known-valued ws bs next x.told.1))) }
 

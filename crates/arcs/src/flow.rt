@@ -42,8 +42,14 @@ fn computed_at(net: &[u32], binding: &[u32], at: usize) -> Option<Component>
 {
     let told = evaluate(net, binding, at);
     let z = told.value?;
+    if !within(-8192, 8191, z) {
+        return Some(Component {
+            digit: None,
+            next: told.next,
+        });
+    }
     Some(Component {
-        digit: within(-8192, 8191, z).then_some(digit_of(value_word(z))),
+        digit: Some(digit_of(value_word(z))),
         next: told.next,
     })
 }
@@ -85,7 +91,11 @@ fn put_digit(coded: Option<u64>, range: u32, digit: Option<u64>) -> Option<u64>
 {
     let code = coded?;
     let d = digit?;
-    digit_in(range, d).then_some(code * 16384 + d)
+    // A way out, as for the Options above: `then_some` makes both answers and chooses between them.
+    if !digit_in(range, d) {
+        return None;
+    }
+    Some(code * 16384 + d)
 }
 
 // The code of a colour; it is outside its place; or a component has no value.
@@ -108,8 +118,13 @@ fn pack(net: &[u32], binding: &[u32], ranges: usize, n: usize, at: usize) -> Pac
         let Some(component) = component_at(net, binding, next) else {
             return Packed::Nothing;
         };
-        coded = put_digit(coded, net[ranges + i], component.digit);
         next = component.next;
+        // A way of its own, so that a digit from its word, the common component, is not asked about.
+        let Some(_) = component.digit else {
+            coded = None;
+            continue;
+        };
+        coded = put_digit(coded, net[ranges + i], component.digit);
     }
     match coded {
         Some(code) => Packed::Code(code),

@@ -13,7 +13,14 @@ pub fn value_of(w: u32) -> Option<i32>
     ensures { option_of result ≡ value_of w }
 {
     match kind(w) {
-        12 => (payload(w) < 16384).then_some(signed(w)),
+        12 => {
+            // An `if`, whose ways are those of the caller that this goes into: `then_some` makes both answers and chooses between them.
+            if payload(w) < 16384 {
+                Some(signed(w))
+            } else {
+                None
+            }
+        }
         0..=11 | 13..=15 => None,
         _ => None,
     }

@@ -1,19 +1,23 @@
--- `colours::order::values_before` meets its contract: the loop of `Comparing`.
-use Rattle.colours.proofs.Comparing.{words-start, words-less, words_more, words_turn, words-end}
-use native.Mathlib.Omega.{arith}
+-- `colours::order::values_before` meets its contract: the loop of `Comparing` over words and words.
+use mathlib.Core.Bool.{not}
+use mathlib.Core.Path.{ap}
+use Rattle.colours.proofs.Comparing.{words-start, words_more, words_turn, comparing}
+use borrow.Author.Rules.{rules}
 use Rattle.colours.proofs.order.values_before.Goals as goal
 
 pub loop-i-init : goal.loop-i-init
 loop-i-init c = words-start _ _ _ _
 
-pub returns-in-Less : goal.returns-in-Less
-returns-in-Less c = words-less c.loop-i.invariant c.loop-i-test.true c.signed.ensures c.signed-in-loop-i.ensures c.cmp.ensures c.in-Less.is
+pub returns-then-less : goal.returns-then-less
+returns-then-less c = search comparing
 
-pub returns-in-Greater : goal.returns-in-Greater
-returns-in-Greater c = words_more c.loop-i.invariant c.loop-i-test.true c.signed.ensures c.signed-in-loop-i.ensures c.cmp.ensures c.in-Greater.is
+pub returns-then-not-equal : goal.returns-then-not-equal
+returns-then-not-equal c =
+    words_more c.loop-i.invariant c.loop-i-test.true (search rules) (search rules) c.less.ensures c.if-less.false c.equal.ensures (ap not c.if-not-equal.true)
 
 pub loop-i-preserved : goal.loop-i-preserved
-loop-i-preserved c = words_turn c.loop-i.invariant c.loop-i-test.true c.signed.ensures c.signed-in-loop-i.ensures c.cmp.ensures c.in-Equal.is
+loop-i-preserved c =
+    words_turn c.loop-i.invariant c.loop-i-test.true (search rules) (search rules) c.less.ensures c.if-less.false c.equal.ensures (ap not c.if-not-equal.false)
 
 pub returns : goal.returns
-returns c = words-end c.loop-i.invariant (omega arith)
+returns c = search comparing
