@@ -142,5 +142,5 @@ fn list_all(out: &mut impl fmt::Write) -> fmt::Result {
 }
 
 fn main() {
-    let _ = list_all(&mut Output);
+    let _ = list_all(&mut Output::new());
 }

@@ -23,5 +23,5 @@ fn list_bytes(out: &mut impl fmt::Write, bytes: &[u8]) -> fmt::Result {
 fn main() {
     let mut space = [0u8; 65540];
     let n = io::read_full(0, &mut space);
-    let _ = list_bytes(&mut Output, &space[..n]);
+    let _ = list_bytes(&mut Output::new(), &space[..n]);
 }

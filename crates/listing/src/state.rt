@@ -26,9 +26,9 @@ pub enum Due {
 // The payloads of the NET word and of the last PLACE or TRANSITION word, what was begun last, how many places and transitions have begun, how many RANGE
 // words, arcs, conjuncts and elements the last of them has had, how many expressions are still due, and the number of components of each place.
 // The counts saturate only so that none of them asks for room: a net has at most 16,384 words.
-#[derive(Drop)]
+#[derive(Clone, Copy)]
 pub struct State {
-    net: u32,
+    pub net: u32,
     pub head: u32,
     pub inside: Inside,
     pub places: u32,
@@ -37,7 +37,7 @@ pub struct State {
     pub arcs: u32,
     pub conjuncts: u32,
     pub elements: u32,
-    terms: u32,
+    pub terms: u32,
     widths: [u32; 64],
 }
 
