@@ -30,22 +30,22 @@ fn code_of(k: u32) -> u32 {
     }
 }
 
-// Words that are being drawn: the buffer that they go to, the position after them, and the state of the sequence.
+// What draws words: the buffer that they go to, the position after them, and the state of the sequence.
 #[derive(Drop)]
-pub struct Draft<'w> {
+pub struct Pen<'w> {
     pub words: &'w mut [u32],
     pub at: usize,
     pub seed: u64,
 }
 
-// Where a draft ended.
+// Words that were drawn: the position after them, and the state of the sequence.
 #[derive(Clone, Copy)]
-pub struct End {
+pub struct Draft {
     pub at: usize,
     pub seed: u64,
 }
 
-impl Draft<'_> {
+impl Pen<'_> {
     // One word more.
     pub fn word(&mut self, w: u32) {
         self.at = put(self.words, self.at, w);
@@ -62,8 +62,8 @@ impl Draft<'_> {
         self.pick(n)
     }
 
-    pub fn end(&self) -> End {
-        End {
+    pub fn end(&self) -> Draft {
+        Draft {
             at: self.at,
             seed: self.seed,
         }

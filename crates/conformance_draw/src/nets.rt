@@ -1,5 +1,5 @@
 // Drawn nets, without their plans, and drawn markings: at most three places and one or two transitions, of which one is drawn.
-use crate::draw::{Draft, End};
+use crate::draw::{Draft, Pen};
 use conformance_plain::counts::{colours, put_entry};
 use conformance_plain::reading::{components, get, place_count, ranges_at, value_above, values};
 
@@ -8,7 +8,7 @@ fn range_word(low: u32, more: u32) -> u32 {
 }
 
 // A RANGE of at most so many values and at least half as many, mostly with a low end from -2 to 0.
-fn range(d: &mut Draft<'_>, most: u32) {
+fn range(d: &mut Pen<'_>, most: u32) {
     let more = most.wrapping_sub(1).wrapping_sub(d.draw(most / 2 + 1));
     let low = d.draw(3).wrapping_sub(2);
     let w = match d.pick(36) {
@@ -19,7 +19,7 @@ fn range(d: &mut Draft<'_>, most: u32) {
     d.word(w);
 }
 
-fn ranges(d: &mut Draft<'_>, count: u32, most: u32) {
+fn ranges(d: &mut Pen<'_>, count: u32, most: u32) {
     for _ in 0..count {
         range(d, most);
     }
@@ -45,20 +45,20 @@ fn values_of(components: u32) -> u32 {
 }
 
 // A place of one to four components.
-fn place(d: &mut Draft<'_>) {
+fn place(d: &mut Pen<'_>) {
     let n = components_of(d.draw(20));
     d.word(0x2000_0000 + n % 8);
     ranges(d, n, values_of(n));
 }
 
-pub fn places(d: &mut Draft<'_>, count: u32) {
+pub fn places(d: &mut Pen<'_>, count: u32) {
     for _ in 0..count {
         place(d);
     }
 }
 
 // A component expression of the RANGE: a lone variable, a constant of the range, or operators.
-fn component(d: &mut Draft<'_>, variables: u32, range: u32) {
+fn component(d: &mut Pen<'_>, variables: u32, range: u32) {
     match d.draw(20) {
         0..=11 if 0 < variables => d.variable(variables),
         12..=14 if 0 < variables => d.offset(variables),
@@ -71,7 +71,7 @@ fn component(d: &mut Draft<'_>, variables: u32, range: u32) {
     }
 }
 
-fn arc(d: &mut Draft<'_>, variables: u32, places: u32) {
+fn arc(d: &mut Pen<'_>, variables: u32, places: u32) {
     let p = d.draw(places);
     d.word(0x5000_0000_u32.wrapping_add(p));
     d.coefficient(variables);
@@ -82,14 +82,14 @@ fn arc(d: &mut Draft<'_>, variables: u32, places: u32) {
     }
 }
 
-fn arcs(d: &mut Draft<'_>, variables: u32, places: u32, count: u32) {
+fn arcs(d: &mut Pen<'_>, variables: u32, places: u32, count: u32) {
     for _ in 0..count {
         arc(d, variables, places);
     }
 }
 
 // An equation with a variable alone on its left side, or on its right one.
-fn equation(d: &mut Draft<'_>, variables: u32, left: bool) {
+fn equation(d: &mut Pen<'_>, variables: u32, left: bool) {
     d.word(0x6000_0000);
     if left {
         d.variable(variables);
@@ -101,7 +101,7 @@ fn equation(d: &mut Draft<'_>, variables: u32, left: bool) {
 }
 
 // A conjunct: often an equation with a variable alone on one side.
-fn conjunct(d: &mut Draft<'_>, variables: u32) {
+fn conjunct(d: &mut Pen<'_>, variables: u32) {
     let k = d.draw(12);
     if variables == 0 || 8 <= k {
         d.word(0x6000_0000 + k % 4);
@@ -112,7 +112,7 @@ fn conjunct(d: &mut Draft<'_>, variables: u32) {
     }
 }
 
-fn other_side(d: &mut Draft<'_>, variables: u32) {
+fn other_side(d: &mut Pen<'_>, variables: u32) {
     match d.draw(9) {
         k @ 0..=2 => d.constant(k.wrapping_sub(1)),
         3 => d.operator(0),
@@ -121,7 +121,7 @@ fn other_side(d: &mut Draft<'_>, variables: u32) {
     }
 }
 
-fn conjuncts(d: &mut Draft<'_>, variables: u32, count: u32) {
+fn conjuncts(d: &mut Pen<'_>, variables: u32, count: u32) {
     for _ in 0..count {
         conjunct(d, variables);
     }
@@ -186,7 +186,7 @@ pub struct Head {
 }
 
 // A drawn transition up to its plan.
-pub fn transition(d: &mut Draft<'_>, places: u32) {
+pub fn transition(d: &mut Pen<'_>, places: u32) {
     let variables = variables_of(d.draw(24));
     let inputs = inputs_of(d.draw(10));
     let outputs = d.draw(3);
@@ -202,7 +202,7 @@ pub fn transition(d: &mut Draft<'_>, places: u32) {
 }
 
 // A transition beside the drawn one: with nothing, or with one variable and a plan.
-pub fn beside(d: &mut Draft<'_>, k: u32) {
+pub fn beside(d: &mut Pen<'_>, k: u32) {
     if k % 2 == 0 {
         d.word(0x4000_0000);
         return;
@@ -213,13 +213,13 @@ pub fn beside(d: &mut Draft<'_>, k: u32) {
 }
 
 // The NET word of a number of transitions, and as many places as are drawn.
-fn draw_places(d: &mut Draft<'_>, count: u32, transitions: u32) {
+fn draw_places(d: &mut Pen<'_>, count: u32, transitions: u32) {
     d.word(0x1000_0000 + count % 16 * 256 + transitions % 16);
     places(d, count);
 }
 
 // The words before the drawn transition, k telling how it stands in the net.
-fn draw_front(d: &mut Draft<'_>, count: u32, k: u32) {
+fn draw_front(d: &mut Pen<'_>, count: u32, k: u32) {
     match k % 3 {
         0 => draw_places(d, count, 1),
         1 => draw_places(d, count, 2),
@@ -232,7 +232,7 @@ fn draw_front(d: &mut Draft<'_>, count: u32, k: u32) {
 
 // The net's words up to the plan of the drawn transition. It is alone, the first of two, or the second of two.
 pub fn draw_head(words: &mut [u32], seed: u64, k: u32) -> Head {
-    let mut d = Draft { words, at: 0, seed };
+    let mut d = Pen { words, at: 0, seed };
     let count = d.draw(3) % 3 + 1;
     draw_front(&mut d, count, k);
     transition(&mut d, count);
@@ -254,7 +254,7 @@ fn count_of(k: u32) -> u32 {
 }
 
 // Perhaps an entry: the colour of an index, by a chance out of 256.
-fn entry(d: &mut Draft<'_>, net: &[u32], place: u32, index: u64, chance: u32) {
+fn entry(d: &mut Pen<'_>, net: &[u32], place: u32, index: u64, chance: u32) {
     if d.draw(256) < chance {
         let count = count_of(d.draw(10));
         d.at = put_entry(d.words, d.at, net, place, index, count);
@@ -280,7 +280,7 @@ fn chance_of(k: u32, all: u64) -> u32 {
 }
 
 // The entries of a place.
-fn mark_place(d: &mut Draft<'_>, net: &[u32], place: u32) {
+fn mark_place(d: &mut Pen<'_>, net: &[u32], place: u32) {
     let all = colours(net, place);
     let chance = chance_of(d.draw(8), all);
     for index in 0..all {
@@ -289,8 +289,8 @@ fn mark_place(d: &mut Draft<'_>, net: &[u32], place: u32) {
 }
 
 // A marking of a net.
-pub fn marking(words: &mut [u32], seed: u64, net: &[u32]) -> End {
-    let mut d = Draft { words, at: 0, seed };
+pub fn marking(words: &mut [u32], seed: u64, net: &[u32]) -> Draft {
+    let mut d = Pen { words, at: 0, seed };
     for place in 0..place_count(net) {
         mark_place(&mut d, net, place);
     }

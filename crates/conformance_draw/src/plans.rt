@@ -1,5 +1,5 @@
 // Plans drawn for a transition, each element one that document 01 says is fit.
-use crate::draw::{Draft, next, pick};
+use crate::draw::{Pen, next, pick};
 use conformance_plain::build::put;
 use conformance_plain::reading::{Shape, components, get, kind, place_of, shape_of, skip};
 use conformance_plain::slots::Slots;
@@ -180,7 +180,7 @@ fn plan_of(s: Shape<'_>, way: u64) -> Plan {
 }
 
 // A plan put after the words of a transition that has none; its number of elements goes into the TRANSITION word.
-pub fn draw_plan(d: &mut Draft<'_>, transition: u32) {
+pub fn draw_plan(d: &mut Pen<'_>, transition: u32) {
     let way = next(d.seed);
     let s = shape_of(d.words, transition);
     let at = s.at;

@@ -1,5 +1,5 @@
 // Expressions drawn from a sequence of numbers; what each is worth is worked out where it is drawn.
-use conformance_draw::draw::Draft;
+use conformance_draw::draw::Pen;
 use conformance_plain::reading::{signed, value_above, values};
 
 // The values of the two variables: x from -1 to 2, y from 0 to 3.
@@ -9,25 +9,25 @@ pub struct Binding {
     pub y: i32,
 }
 
-pub fn draw_binding(d: &mut Draft<'_>) -> Binding {
+pub fn draw_binding(d: &mut Pen<'_>) -> Binding {
     Binding {
         x: d.draw(4).cast_signed().wrapping_sub(1),
         y: d.draw(4).cast_signed(),
     }
 }
 
-fn constant(d: &mut Draft<'_>, v: i32) -> i32 {
+fn constant(d: &mut Pen<'_>, v: i32) -> i32 {
     d.constant(v.cast_unsigned());
     v
 }
 
-fn variable(d: &mut Draft<'_>, number: u32, v: i32) -> i32 {
+fn variable(d: &mut Pen<'_>, number: u32, v: i32) -> i32 {
     d.word(0x8000_0000 + number % 8);
     v
 }
 
 // A variable, or a constant from -1 to 4.
-fn leaf(d: &mut Draft<'_>, b: Binding) -> i32 {
+fn leaf(d: &mut Pen<'_>, b: Binding) -> i32 {
     match d.draw(10) {
         0..=1 => variable(d, 0, b.x),
         2..=3 => variable(d, 1, b.y),
@@ -55,7 +55,7 @@ fn result(code: u32, a: i32, b: i32) -> Option<i32> {
     }
 }
 
-fn operator(d: &mut Draft<'_>, b: Binding, code: u32) -> Option<i32> {
+fn operator(d: &mut Pen<'_>, b: Binding, code: u32) -> Option<i32> {
     d.word(0x9000_0000 + code % 8);
     let first = leaf(d, b);
     if code == 4 {
@@ -66,7 +66,7 @@ fn operator(d: &mut Draft<'_>, b: Binding, code: u32) -> Option<i32> {
 }
 
 // A leaf, or an operator on leaves.
-pub fn expression(d: &mut Draft<'_>, b: Binding) -> Option<i32> {
+pub fn expression(d: &mut Pen<'_>, b: Binding) -> Option<i32> {
     match d.draw(12) {
         0..=6 => Some(leaf(d, b)),
         k => operator(d, b, k - 7),
@@ -74,7 +74,7 @@ pub fn expression(d: &mut Draft<'_>, b: Binding) -> Option<i32> {
 }
 
 // Mostly a constant from 0 to 3.
-pub fn coefficient(d: &mut Draft<'_>, b: Binding) -> Option<i32> {
+pub fn coefficient(d: &mut Pen<'_>, b: Binding) -> Option<i32> {
     match d.draw(8) {
         0 => Some(constant(d, 0)),
         1..=3 => Some(constant(d, 1)),
@@ -85,7 +85,7 @@ pub fn coefficient(d: &mut Draft<'_>, b: Binding) -> Option<i32> {
 }
 
 // Mostly a constant of a RANGE.
-pub fn component(d: &mut Draft<'_>, b: Binding, range: u32) -> Option<i32> {
+pub fn component(d: &mut Pen<'_>, b: Binding, range: u32) -> Option<i32> {
     if d.draw(4) < 3 {
         let above = d.draw(values(range));
         return Some(constant(d, signed(value_above(range, above))));

@@ -3,13 +3,13 @@
 use crate::draw::{Binding, coefficient, component, draw_binding, expression};
 use crate::plain::{Flow, Moved};
 use crate::words::Words;
-use conformance_draw::draw::Draft;
+use conformance_draw::draw::Pen;
 use conformance_plain::build::write;
 use conformance_plain::counts::cell_of;
 use conformance_plain::reading::{get, ranges_at};
 
 // The colour of an arc's place: one component, or two at place 1.
-fn colour(d: &mut Draft<'_>, b: Binding, place: u32) -> Option<[i32; 8]> {
+fn colour(d: &mut Pen<'_>, b: Binding, place: u32) -> Option<[i32; 8]> {
     let ranges = ranges_at(d.words, place);
     let first = get(d.words, ranges);
     let second = get(d.words, ranges.wrapping_add(1));
@@ -22,7 +22,7 @@ fn colour(d: &mut Draft<'_>, b: Binding, place: u32) -> Option<[i32; 8]> {
 }
 
 // What an arc says, where all its expressions have values.
-fn arc(d: &mut Draft<'_>, b: Binding) -> Option<Flow> {
+fn arc(d: &mut Pen<'_>, b: Binding) -> Option<Flow> {
     let place = d.draw(3);
     d.word(0x5000_0000 + place % 4);
     let n = coefficient(d, b);
@@ -33,7 +33,7 @@ fn arc(d: &mut Draft<'_>, b: Binding) -> Option<Flow> {
     })
 }
 
-fn arcs(d: &mut Draft<'_>, b: Binding, count: u32) -> Moved {
+fn arcs(d: &mut Pen<'_>, b: Binding, count: u32) -> Moved {
     let mut moved = Moved::NOTHING;
     for _ in 0..count {
         moved.add(arc(d, b));
@@ -51,7 +51,7 @@ fn related(relation: u32, a: i32, b: i32) -> bool {
 }
 
 // Whether a conjunct holds.
-fn conjunct(d: &mut Draft<'_>, b: Binding) -> bool {
+fn conjunct(d: &mut Pen<'_>, b: Binding) -> bool {
     let relation = d.draw(4);
     d.word(0x6000_0000 + relation % 4);
     let left = expression(d, b);
@@ -61,7 +61,7 @@ fn conjunct(d: &mut Draft<'_>, b: Binding) -> bool {
 }
 
 // Whether all conjuncts hold.
-fn conjuncts(d: &mut Draft<'_>, b: Binding, count: u32) -> bool {
+fn conjuncts(d: &mut Pen<'_>, b: Binding, count: u32) -> bool {
     let mut holds = true;
     for _ in 0..count {
         holds &= conjunct(d, b);
@@ -87,7 +87,7 @@ struct Shape {
 }
 
 impl Shape {
-    fn draw(d: &mut Draft<'_>) -> Shape {
+    fn draw(d: &mut Pen<'_>) -> Shape {
         Shape {
             inputs: d.draw(4),
             outputs: d.draw(4),
@@ -101,12 +101,12 @@ impl Shape {
     }
 }
 
-fn text(d: &mut Draft<'_>, text: &[u8]) {
+fn text(d: &mut Pen<'_>, text: &[u8]) {
     d.at = write(d.words, d.at, text);
 }
 
 // The net's words before its arcs.
-fn begin(d: &mut Draft<'_>, s: Shape) {
+fn begin(d: &mut Pen<'_>, s: Shape) {
     text(d, b"1:301 2:1 3:FFFC002 2:2 3:1 3:FFFC001 2:1 3:C004");
     d.word(s.word());
     text(d, b"3:FFFC002 3:3");
@@ -126,7 +126,7 @@ pub struct Net {
 impl Net {
     pub fn draw(seed: u64) -> Net {
         let mut words = [0u32; 128];
-        let mut d = Draft {
+        let mut d = Pen {
             words: &mut words,
             at: 0,
             seed,

@@ -4,7 +4,7 @@ use crate::draw::Binding;
 use crate::nets::Net;
 use crate::plain::{COLOURS, Counts, covered, move_tokens};
 use crate::words::Words;
-use conformance_draw::draw::Draft;
+use conformance_draw::draw::Pen;
 use conformance_plain::counts::put_marking;
 use conformance_report::report::{
     fill, fire_into, first_changed, heading, same_words, say_fire, say_test, say_words,
@@ -42,7 +42,7 @@ impl Case {
     fn draw(seed: u64) -> Case {
         let net = Net::draw(seed);
         let mut counts = [0u32; COLOURS];
-        let mut d = Draft {
+        let mut d = Pen {
             words: &mut counts,
             at: 0,
             seed: net.seed,

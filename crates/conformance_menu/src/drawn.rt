@@ -1,7 +1,7 @@
 // Drawn nets and markings, each with two plans: menu against the lister and the count of tries.
 use crate::case_kinds::{CASES, NO_VARIABLES, OVER, TWO_PLANS, count_kinds};
 use crate::compare::{Call, Compared, Found, Input, Refused};
-use conformance_draw::draw::{Draft, End, jump, next, pick};
+use conformance_draw::draw::{Draft, Pen, jump, next, pick};
 use conformance_draw::nets::{Head, beside, draw_head, marking};
 use conformance_draw::plans::draw_plan;
 use conformance_lister::counting::count_tries;
@@ -72,15 +72,15 @@ struct Pair {
 }
 
 // The words after the drawn transition.
-fn finish(d: &mut Draft<'_>, k: u32) {
+fn finish(d: &mut Pen<'_>, k: u32) {
     if k % 3 == 1 {
         beside(d, k);
     }
 }
 
 // A plan for the drawn transition, and the words after it.
-fn draw_rest(words: &mut [u32], h: Head, seed: u64, k: u32) -> End {
-    let mut d = Draft {
+fn draw_rest(words: &mut [u32], h: Head, seed: u64, k: u32) -> Draft {
+    let mut d = Pen {
         words,
         at: h.at,
         seed,

@@ -32,8 +32,8 @@ pub fn tuple_at(net: &[u32], ranges: usize, count: u32, index: u64) -> Slots {
 // The first slots put into a list.
 pub fn put_slots(list: &mut [u32], start: usize, b: Slots, count: u32) -> usize {
     let mut at = start;
-    for w in b.words.iter().take(count as usize) {
-        at = put(list, at, *w);
+    for v in 0..count as usize {
+        at = put(list, at, get(&b.words, v));
     }
     at
 }

@@ -62,7 +62,8 @@ impl Stack {
             0 => a.checked_add(b),
             1 => a.checked_sub(b),
             2 => a.checked_mul(b),
-            _ => remainder(a, b),
+            3 => remainder(a, b),
+            _ => load(a),
         }
     }
 }

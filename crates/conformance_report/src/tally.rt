@@ -3,8 +3,8 @@
 // How many there are of each kind, and how many comparisons showed a difference.
 #[derive(Clone, Copy)]
 pub struct Tally {
-    counts: [u32; 40],
-    different: u32,
+    pub counts: [u32; 40],
+    pub different: u32,
 }
 
 impl Tally {

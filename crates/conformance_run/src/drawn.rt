@@ -1,6 +1,6 @@
 // Drawn runs: a net of one to three transitions with their plans, a marking, picks, a budget and buffers, some of them damaged or short.
 use crate::compare::{Case, Compared, Due, Told};
-use conformance_draw::draw::{Draft, End, jump, next, pick};
+use conformance_draw::draw::{Draft, Pen, jump, next, pick};
 use conformance_draw::nets::{marking, places, transition};
 use conformance_draw::plans::draw_plan;
 use conformance_lister::lister::list_all;
@@ -26,7 +26,7 @@ const NO_PICKS: usize = 22;
 const SHORT_SPARE: usize = 23;
 
 // Transitions with their plans.
-fn transitions(d: &mut Draft<'_>, places: u32, count: u32) {
+fn transitions(d: &mut Pen<'_>, places: u32, count: u32) {
     for t in 0..count {
         transition(d, places);
         draw_plan(d, t);
@@ -34,8 +34,8 @@ fn transitions(d: &mut Draft<'_>, places: u32, count: u32) {
 }
 
 // A net of one to three places and one to three transitions.
-fn draw_net(net: &mut [u32], seed: u64) -> End {
-    let mut d = Draft {
+fn draw_net(net: &mut [u32], seed: u64) -> Draft {
+    let mut d = Pen {
         words: net,
         at: 0,
         seed,
