@@ -143,22 +143,29 @@ fn take_pick(net: &[u32], g: Given, before: &Counts, w: u32) -> Option<Result<Co
     Some(take_binding(g, s, before, tries, w % 0x4000))
 }
 
-// The picks in turn, up to the first one that stops the run.
-fn take_picks(net: &[u32], g: Given, before: Counts, picks: &[u32]) -> Option<State> {
+// The picks in turn, up to the first one that stops the run, or up to one whose tries are too many to count.
+fn take_picks(net: &[u32], g: Given, before: Counts, picks: &[u32]) -> Result<State, State> {
     let mut counts = before;
     for (done, w) in picks.iter().enumerate() {
-        match take_pick(net, g, &counts, *w)? {
-            Ok(after) => counts = after,
-            Err(r) => {
-                return Some(State {
+        match take_pick(net, g, &counts, *w) {
+            Some(Ok(after)) => counts = after,
+            Some(Err(r)) => {
+                return Ok(State {
                     done,
                     stopped: Some(r),
                     counts,
                 });
             }
+            None => {
+                return Err(State {
+                    done,
+                    stopped: None,
+                    counts,
+                });
+            }
         }
     }
-    Some(State {
+    Ok(State {
         done: picks.len(),
         stopped: None,
         counts,
@@ -181,13 +188,22 @@ fn leave(net: &[u32], g: Given, st: State, buffer: &mut [u32]) -> Outcome {
     }
 }
 
-// The answer to an accepted net, unless a plan has more tries than this program counts; the buffer, as it was before the run, is left as it is after it.
-pub fn run_plainly(net: &[u32], g: Given, buffer: &mut [u32], picks: &[u32]) -> Option<Outcome> {
+// In the place of a refusal's number: the plan has more tries than this program counts.
+pub const TOO_LARGE: u32 = 99;
+
+// The answer to an accepted net, or what was done before a plan of more tries than this program counts; the buffer, as it was before the run, is left as it
+// is after it.
+pub fn run_plainly(
+    net: &[u32],
+    g: Given,
+    buffer: &mut [u32],
+    picks: &[u32],
+) -> Result<Outcome, Outcome> {
     match judge_input(net, g, buffer, picks) {
-        Ok(counts) => {
-            let st = take_picks(net, g, counts, picks)?;
-            Some(leave(net, g, st, buffer))
-        }
-        Err(r) => Some(refused_input(r)),
+        Ok(counts) => match take_picks(net, g, counts, picks) {
+            Ok(st) => Ok(leave(net, g, st, buffer)),
+            Err(st) => Err(leave(net, g, st, buffer)),
+        },
+        Err(r) => Ok(refused_input(r)),
     }
 }

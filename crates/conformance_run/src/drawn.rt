@@ -175,7 +175,7 @@ fn damage(words: &mut [u32], m: usize, seed: u64) {
 fn compare_plain(t: &mut Compared, c: Case<'_>) {
     let mut after = [0; 1600];
     copy(c.before, &mut after, 1600);
-    let Some(o) = run_plainly(c.net, c.given, &mut after, c.picks) else {
+    let Ok(o) = run_plainly(c.net, c.given, &mut after, c.picks) else {
         t.tally.add(LARGE, 1);
         return;
     };

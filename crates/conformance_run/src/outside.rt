@@ -2,7 +2,7 @@
 // with bars between its fields: name; net; buffer; budget, m, and the lengths of spare and menu; picks; done, refusal, position and length; the buffer
 // afterwards; for spare and for menu 1 where it is cleared and 0 where it stays. Each is held against run, and against the plain run where the net is accepted.
 use crate::compare::{Case, Compared, Due, Told};
-use conformance_picks::plain::{Given, clears, run_plainly};
+use conformance_picks::plain::{Given, TOO_LARGE, clears, run_plainly};
 use conformance_plain::build::{copy, front, write};
 use conformance_plain::text::{field, part};
 use conformance_report::report::{fill, heading, same_words};
@@ -14,10 +14,17 @@ const PLAIN: usize = 24;
 fn holds_plainly(c: Case<'_>, d: Due<'_>) -> bool {
     let mut buffer = [0; 1600];
     copy(c.before, &mut buffer, 1600);
-    let Some(o) = run_plainly(c.net, c.given, &mut buffer, c.picks) else {
-        return false;
+    let (told, cleared) = match run_plainly(c.net, c.given, &mut buffer, c.picks) {
+        Ok(o) => (Told::from(o), clears(o.stopped)),
+        Err(o) => (
+            Told {
+                number: TOO_LARGE,
+                ..Told::from(o)
+            },
+            true,
+        ),
     };
-    Told::from(o) == d.told && same_words(&buffer, d.after, 1600) && clears(o.stopped) == d.cleared
+    told == d.told && same_words(&buffer, d.after, 1600) && cleared == d.cleared
 }
 
 // Whether a run is refused for its net.
