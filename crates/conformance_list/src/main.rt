@@ -2,7 +2,7 @@
 #![tactic(auto)]
 
 use listing::list::list_words;
-use listing::output::Output;
+use listing::output::LineOutput;
 use std::fmt;
 use std::fmt::Write;
 
@@ -142,5 +142,5 @@ fn list_all(out: &mut impl fmt::Write) -> fmt::Result {
 }
 
 fn main() {
-    let _ = list_all(&mut Output::new());
+    let _ = list_all(&mut LineOutput::new());
 }

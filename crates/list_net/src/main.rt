@@ -3,7 +3,7 @@
 #![tactic(auto)]
 
 use listing::list::list_words;
-use listing::output::Output;
+use listing::output::LineOutput;
 use std::fmt;
 use std::fmt::Write;
 use word::bytes::words_of_bytes;
@@ -23,5 +23,5 @@ fn list_bytes(out: &mut impl fmt::Write, bytes: &[u8]) -> fmt::Result {
 fn main() {
     let mut space = [0u8; 65540];
     let n = io::read_full(0, &mut space);
-    let _ = list_bytes(&mut Output::new(), &space[..n]);
+    let _ = list_bytes(&mut LineOutput::new(), &space[..n]);
 }

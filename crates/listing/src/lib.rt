@@ -11,5 +11,5 @@ pub mod spell;
 pub mod reason;
 // Where in a net a word stands.
 pub mod state;
-// Standard output as a writer.
+// Standard output as writers, at once and by the line.
 pub mod output;

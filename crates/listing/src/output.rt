@@ -1,20 +1,31 @@
-// Standard output as a writer, by the line.
+// Standard output as a writer, at once and by the line. A write that fails is passed over: what a program prints is all that it answers.
 use std::fmt;
+
+// At once: each text goes out as it comes.
+#[derive(Clone, Copy)]
+pub struct Output;
+
+impl fmt::Write for Output {
+    fn write_str(&mut self, s: &str) -> fmt::Result {
+        io::write_all(1, s.as_bytes());
+        Ok(())
+    }
+}
 
 // Room for a line; those of a listing have less than half of it.
 const MOST: usize = 4096;
 
-// A line waits here for its end and goes out in one write, so that none is parted by what others print to the same place, and none is lost in part.
-// One that is longer goes out in parts. A write that fails is passed over: what a program prints is all that it answers.
+// By the line: it waits here for its end and goes out in one write, so that none is parted by what others print to the same place, and none is lost in part.
+// One that is longer goes out in parts of that room; what is left of a line that never ends is not printed.
 #[derive(Clone, Copy)]
-pub struct Output {
+pub struct LineOutput {
     line: [u8; MOST],
     length: usize,
 }
 
-impl Output {
-    pub fn new() -> Output {
-        Output {
+impl LineOutput {
+    pub fn new() -> LineOutput {
+        LineOutput {
             line: [0; MOST],
             length: 0,
         }
@@ -32,7 +43,7 @@ impl Output {
     }
 }
 
-impl fmt::Write for Output {
+impl fmt::Write for LineOutput {
     fn write_str(&mut self, s: &str) -> fmt::Result {
         for &byte in s.as_bytes() {
             self.put(byte);
